@@ -1,0 +1,4 @@
+pub mod Options
+pub mod Numbered
+pub mod Integers
+pub mod Spans
