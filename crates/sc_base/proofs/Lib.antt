@@ -1,3 +1,6 @@
 pub mod Bools
 pub mod Options
 pub mod Places
+pub mod Integers
+pub mod Members
+pub mod Copies

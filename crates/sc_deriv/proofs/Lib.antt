@@ -1,0 +1,6 @@
+pub mod Trees
+pub mod Refutes
+pub mod Counting
+pub mod Spellings
+pub mod Nested
+pub mod Checked

@@ -1,0 +1,33 @@
+//! Laws of the definitions.
+
+ghost use Rattle.sc_deriv.specs.Laws.{AcceptsClosedTrees, RefusesFirstFailure, FailsByStepOrClash, ClosedTreesRefute, LemmasRefute, LemmasFollow};
+
+use sc_rules::steps_are_sound;
+use sc_terms::meanings_fit;
+
+/// The judgement accepts exactly the lists of nodes that are one tree, in which each step applies on its path and each closing holds on its, from whichever path the tree begins.
+pub fn accepts_closed_trees()
+    ensures { AcceptsClosedTrees }
+{}
+
+/// Of a whole tree that is not closed the judgement names the first node in preorder that fails, and why: a step that does not apply, or a clash that does not hold.
+pub fn refuses_first_failure()
+    ensures first { RefusesFirstFailure }
+    ensures reasons { FailsByStepOrClash }
+{}
+
+/// No valuation that fits makes all facts true on which a closed tree begins.
+pub fn closed_trees_refute()
+    ensures { ClosedTreesRefute }
+{
+    steps_are_sound();
+}
+
+/// Where a tree is closed that begins with the roots and hypotheses, no valuation that fits makes both true; so no interpretation that makes the roots true makes all hypotheses true.
+pub fn lemmas_follow()
+    ensures valuations { LemmasRefute }
+    ensures interpretations { LemmasFollow }
+{
+    closed_trees_refute();
+    meanings_fit();
+}

@@ -1,0 +1,4 @@
+pub mod Same
+pub mod Inputs
+pub mod Facts
+pub mod Paths

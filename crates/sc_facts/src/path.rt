@@ -1,0 +1,249 @@
+//! Paths.
+
+ghost use Rattle.std.specs.Prelude.{◌≡◌, ◌≤◌, ◌<◌, [], ◌∷◌, ◌++◌, length, take, slice_get, IfOk, OnOk, OnErr};
+ghost use Rattle.std.specs.Option.{option_copied};
+ghost use Rattle.sc_base.specs.Numbered.{item_at};
+ghost use Rattle.sc_terms.specs.Conditions.{IsProblem};
+ghost use Rattle.sc_facts.specs.Facts.{has, first_place, row_in, rows_of};
+ghost use Rattle.std.specs.Vec.{vec_len, vec_capacity};
+ghost use Rattle.sc_facts.specs.Paths.{from_root, with_facts, with_place, row_place, row_by};
+
+use crate::fact::Fact;
+use indexmap::IndexMap;
+use sc_terms::{Memory, Problem, Row};
+use std::alloc::Global;
+use std::marker::Model;
+
+/// What stands before a place of a path.
+#[derive(Clone, Copy)]
+pub struct Before {
+    /// How many different facts.
+    pub different: usize,
+    /// How many rows.
+    pub rows: usize,
+}
+
+/// The facts of a branch, those of the root path first; seen as the list of its facts, with how many are the root path's.
+#[derive(Drop)]
+pub struct Path {
+    root_count: usize,
+    facts: Vec<Fact>,
+    /// Each different fact with the first place where it stands, from 0.
+    first_places: IndexMap<Fact, usize>,
+    /// The places of the rows.
+    row_places: Vec<usize>,
+    /// What stands before each place.
+    before: Vec<Before>,
+}
+
+impl Model for Path {
+    ghost use Rattle.std.specs.Prelude.{◌≤◌, length};
+    ghost use Rattle.sc_facts.specs.Paths.{PathFacts, IsIndexed};
+
+    ghost Value = { PathFacts };
+
+    ghost view = { λ p. record { root_count = p.root_count; facts = p.facts.items } };
+
+    ghost invariant = { λ p. (p.root_count ≤ length p.facts.items) × IsIndexed p.facts.items p.first_places.entries p.row_places.items p.before.items };
+}
+
+/// Notes the place of a fact that has none yet. Where memory is refused the places stay as they were.
+#[tactic(auto, using(crate::proofs::Lookups::place_added))]
+fn note_place(places: &mut IndexMap<Fact, usize>, fact: &Fact, place: usize) -> Result<(), Memory>
+    ensures ok { OnOk result (places.new.entries ≡ with_place places.old.entries fact.now place) }
+    ensures err { OnErr result (places.new.entries ≡ places.old.entries) }
+{
+    if places.contains_key(fact) {
+        return Ok(());
+    }
+    places.insert(fact.clone()?, place)?;
+    Ok(())
+}
+
+/// Notes the place of a fact that is a row. There is room for it.
+fn note_row(places: &mut Vec<usize>, fact: &Fact, place: usize)
+    requires { vec_len places.old < vec_capacity places.old }
+    ensures { places.new.items ≡ places.old.items ++ row_place place fact.now }
+{
+    if let Fact::Row(_) = fact {
+        places.push_reserved(place);
+    }
+}
+
+/// What stands before a place, or nothing past the last.
+fn before_at(before: &[Before], place: usize) -> Option<Before>
+    ensures { result ≡ slice_get before.now place }
+{
+    before.get(place).copied()
+}
+
+/// The row that a row fact states.
+fn row_of(fact: &Fact) -> Option<&Row>
+    ensures { option_copied result ≡ row_in fact.now }
+{
+    match fact {
+        Fact::Row(row) => Some(row),
+        _ => None,
+    }
+}
+
+/// The row at the place that stands at an index of the places.
+fn row_at<'a>(facts: &'a [Fact], places: &[usize], index: usize) -> Option<&'a Row>
+    ensures { option_copied result ≡ row_by facts.now places.now index }
+{
+    let place = *places.get(index)?;
+    row_of(facts.get(place)?)
+}
+
+impl Path {
+    /// The path of no facts.
+    fn empty(alloc: Global) -> Path
+        ensures { result ≡ record { root_count = 0; facts = [] } }
+    {
+        Path {
+            root_count: 0,
+            facts: Vec::new(alloc),
+            first_places: IndexMap::new(alloc),
+            row_places: Vec::new(alloc),
+            before: Vec::new(alloc),
+        }
+    }
+
+    /// The root path of a problem: each root is true, in their order. The only error is want of memory.
+    pub fn root(alloc: Global, problem: &Problem) -> Result<Path, Memory>
+        ensures path { IfOk result (λ path. path ≡ from_root problem.now) }
+        ensures problem { IsProblem problem.now }
+    {
+        let mut path = Path::empty(alloc);
+        for root in problem.roots() {
+            if path.push(Fact::Sign(*root, true)).is_err() {
+                return Err(Memory);
+            }
+        }
+        path.root_count = path.facts.len();
+        Ok(path)
+    }
+
+    /// Adds a fact at the end. Where memory is refused the path stays as it was.
+    #[tactic(auto, using(crate::proofs::Lookups::more_kept))]
+    pub fn push(&mut self, fact: Fact) -> Result<(), Memory>
+        ensures ok { OnOk result (self.new ≡ with_facts self.old (self.old.facts ++ fact ∷ [])) }
+        ensures err { OnErr result (self.new ≡ self.old) }
+    {
+        let place = self.facts.len();
+        let before = Before {
+            different: self.first_places.len(),
+            rows: self.row_places.len(),
+        };
+        self.facts.reserve(1)?;
+        self.before.reserve(1)?;
+        self.row_places.reserve(1)?;
+        note_place(&mut self.first_places, &fact, place)?;
+        note_row(&mut self.row_places, &fact, place);
+        self.before.push_reserved(before);
+        self.facts.push_reserved(fact);
+        Ok(())
+    }
+
+    /// Adds copies of the facts at the end, in their order. Where memory is refused the path stays as it was.
+    pub fn extend(&mut self, facts: &[Fact]) -> Result<(), Memory>
+        ensures ok { OnOk result (self.new ≡ with_facts self.old (self.old.facts ++ facts.now)) }
+        ensures err { OnErr result (self.new ≡ self.old) }
+    {
+        let length = self.len();
+        let added = self.add_copies(facts);
+        if added.is_err() {
+            self.cut_back(length);
+        }
+        added
+    }
+
+    /// Adds copies of the facts at the end, or of some of them where memory is refused.
+    fn add_copies(&mut self, facts: &[Fact]) -> Result<(), Memory>
+        ensures ok { OnOk result (self.new ≡ with_facts self.old (self.old.facts ++ facts.now)) }
+        ensures roots { self.new.root_count ≡ self.old.root_count }
+        ensures longer { length self.old.facts ≤ length self.new.facts }
+        ensures front { take (length self.old.facts) self.new.facts ≡ self.old.facts }
+    {
+        for fact in facts {
+            match fact.clone() {
+                Ok(copy) => match self.push(copy) {
+                    Ok(()) => {}
+                    Err(e) => return Err(e),
+                },
+                Err(_) => return Err(Memory),
+            }
+        }
+        Ok(())
+    }
+
+    /// Keeps the first facts alone, so many as `count` says.
+    #[tactic(auto, using(crate::proofs::Lookups::front_kept, crate::proofs::Lookups::whole))]
+    pub fn cut_back(&mut self, count: usize)
+        requires roots { self.old.root_count ≤ count }
+        requires facts { count ≤ length self.old.facts }
+        ensures { self.new ≡ with_facts self.old (take count self.old.facts) }
+    {
+        let Some(before) = before_at(self.before.as_slice(), count) else {
+            return;
+        };
+        self.first_places.truncate(before.different);
+        self.row_places.truncate(before.rows);
+        self.before.truncate(count);
+        self.facts.truncate(count);
+    }
+
+    /// The facts in order, those of the root path first.
+    pub fn facts(&self) -> &[Fact]
+        ensures facts { result.now ≡ self.now.facts }
+        ensures roots { self.now.root_count ≤ length self.now.facts }
+    {
+        self.facts.as_slice()
+    }
+
+    /// How many facts there are.
+    pub fn len(&self) -> usize
+        ensures len { result ≡ length self.now.facts }
+        ensures roots { self.now.root_count ≤ length self.now.facts }
+    {
+        self.facts.len()
+    }
+
+    /// How many facts are the root path's.
+    pub fn root_count(&self) -> usize
+        ensures { result ≡ self.now.root_count }
+    {
+        self.root_count
+    }
+
+    /// Whether the fact stands on the path. A look-up, with no walk along the path.
+    #[tactic(auto, using(crate::proofs::Lookups::fact_found))]
+    pub fn has(&self, fact: &Fact) -> bool
+        ensures { result ≡ has self.now.facts fact.now }
+    {
+        self.first_places.contains_key(fact)
+    }
+
+    /// The first place where the fact stands, from 0, or nothing where it doesn't. A look-up, with no walk along the path.
+    #[tactic(auto, using(crate::proofs::Lookups::place_found))]
+    pub fn first_place(&self, fact: &Fact) -> Option<usize>
+        ensures { result ≡ first_place self.now.facts fact.now }
+    {
+        self.first_places.get(fact).copied()
+    }
+
+    /// The row fact with this number, counted from 1 in path order, or nothing where there is none. A look-up, with no walk along the path.
+    #[tactic(auto, using(crate::proofs::Lookups::row_found_at))]
+    pub fn row(&self, number: u64) -> Option<&Row>
+        ensures { option_copied result ≡ item_at (rows_of self.now.facts) number }
+    {
+        if number == 0 {
+            return None;
+        }
+        row_at(
+            self.facts.as_slice(),
+            self.row_places.as_slice(),
+            number as usize - 1,
+        )
+    }
+}

@@ -1,0 +1,4 @@
+pub mod Known
+pub mod Writings
+pub mod Readings
+pub mod Memories

@@ -1,0 +1,2 @@
+pub mod Boolean
+pub mod Steps

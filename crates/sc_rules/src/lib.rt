@@ -1,0 +1,13 @@
+//! The steps of a derivation that need no region tree: those on the signs of formulas.
+//!
+//! A step applies where its condition holds on the path, and then has one branch or two, each with the facts that it concludes.
+#![tactic(auto)]
+
+mod boolean;
+mod laws;
+mod step;
+#[cfg(test)]
+mod tests;
+
+pub use laws::steps_are_sound;
+pub use step::{Branches, PlainStep, StepError, apply};

@@ -1,0 +1,10 @@
+pub mod Moves
+pub mod Scans
+pub mod Passes
+pub mod View
+pub mod Laws
+pub mod Shapes
+pub mod Trees
+pub mod Spots
+pub mod Walk
+pub mod Lines

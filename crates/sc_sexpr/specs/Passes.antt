@@ -1,0 +1,54 @@
+-- What the code says of a pass over the bytes that a splitter holds.
+use Rattle.std.specs.Prelude.{◌≡◌, ℕ, ◌+◌, ◌-◌, ◌≤◌, true, List, take, drop, length}
+use Rattle.sc_sexpr.specs.declared.scan.Pass.{Pass}
+use Rattle.sc_sexpr.specs.declared.scan.Found.{Found}
+use Rattle.sc_sexpr.specs.declared.scan.Found.TheVariants as found
+use Rattle.sc_sexpr.specs.declared.state.Move.{Move}
+use Rattle.sc_sexpr.specs.declared.state.Move.TheVariants as move
+use Rattle.sc_sexpr.specs.Moves.{is_idle, here, closed, IsAhead}
+use Rattle.sc_sexpr.specs.Scans.{Scan, Waits, Top, Full, Bad, scan}
+
+-- the bytes of the item at hand
+abbrev pub text_of : List ℕ → Pass → List ℕ
+text_of bytes p = take (p.at - p.from) (drop p.from bytes)
+
+-- a place in the bytes
+pub record IsPlaced (bytes : List ℕ) (p : Pass) : Type 0 where
+  pub order : p.from ≤ p.at
+  pub within : p.at ≤ length bytes
+
+-- where no item is at hand, none of its bytes are
+abbrev pub IsResting : Pass → Type 0
+IsResting p = is_idle p.state ≡ true → p.from ≡ p.at
+
+-- a pass goes on from another
+pub record Follows (bytes : List ℕ) (old new : Pass) : Type 0 where
+  pub placed : IsPlaced bytes new
+  pub grows : old.at - old.from ≤ new.at - new.from
+  pub lines : new.state.line + new.room ≤ old.state.line + old.room
+  pub ahead : IsAhead old.state → IsAhead new.state
+  pub span : new.at - new.from + new.room ≤ old.at - old.from + old.room
+
+-- the item at hand ends before the next byte
+abbrev pub ends_before : Pass → Found
+ends_before p = found.Top (record p { state = closed p.state }) p.state.item_line
+
+-- what a byte past the limit shows
+abbrev pub found_past : Move → Pass → Found
+found_past (move.Go s) p = found.Full (here p.state)
+found_past (move.Done s) p = found.Full (here p.state)
+found_past move.Before p = ends_before p
+found_past (move.Fail f) p = found.Full (here p.state)
+
+abbrev pub Finds : List ℕ → Pass → Found → Scan → Type 0
+Finds bytes old (found.Waits p) r = (r ≡ Waits p.state (text_of bytes p) p.room) × (p.at ≡ length bytes) × IsResting p × Follows bytes old p
+Finds bytes old (found.Top p line) r = (r ≡ Top (text_of bytes p) line p.state p.room (drop p.at bytes)) × Follows bytes old p × (IsAhead old.state → line ≤ p.state.line)
+Finds bytes old (found.Full line) r = r ≡ Full line
+Finds bytes old (found.Bad f) r = r ≡ Bad f
+
+abbrev pub scan_from : List ℕ → Pass → Scan
+scan_from bytes p = scan p.state (text_of bytes p) p.room (drop p.at bytes)
+
+-- the same place where so many bytes are gone from the front
+abbrev pub moved : Pass → ℕ → Pass
+moved p count = record p { from = p.from - count; at = p.at - count }

@@ -1,0 +1,28 @@
+//! Laws of the definitions.
+
+ghost use Rattle.sc_sexpr.specs.Laws.{IsReader, AreItems};
+ghost use Rattle.sc_sexpr.specs.Trees.{AreTold};
+ghost use Rattle.sc_sexpr.specs.Walk.{AreWalked};
+
+/// The answers of a splitter are the items of all the bytes, in whatever pieces they come.
+pub fn splitters_read()
+    ensures { IsReader }
+{}
+
+/// What a splitter gives is an item for `read_tree`.
+pub fn splitters_give_items()
+    ensures { AreItems }
+{}
+
+/// A text has one tree: its tokens determine it, but for where they lie in memory.
+pub fn trees_are_told()
+    ensures { AreTold }
+{}
+
+/// The items of a text are those that its tokens make, with nothing but white space and comments
+/// between them, and it ends with the first fault of its tokens: one that is broken, a closing
+/// parenthesis outside of every list, the 1,001st open one, a list or quoted token that is open at
+/// the end, or the first byte past the limit.
+pub fn items_are_walked()
+    ensures { AreWalked }
+{}

@@ -1,0 +1,8 @@
+mod Copies
+mod Distinct
+mod Entries
+pub mod Extension
+pub mod Firsts
+pub mod Ranges
+pub mod Small
+pub mod Words

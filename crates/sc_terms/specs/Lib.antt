@@ -1,0 +1,9 @@
+pub mod Same
+pub mod Inputs
+pub mod Forms
+pub mod Orders
+pub mod Lookup
+pub mod Meaning
+pub mod Values
+pub mod Conditions
+pub mod Literals

@@ -1,0 +1,9 @@
+pub mod Walks
+pub mod Found
+pub mod Settled
+pub mod Stretches
+pub mod Plain
+pub mod Readings
+pub mod Runs
+pub mod Quotations
+pub mod Gaps

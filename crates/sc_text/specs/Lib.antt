@@ -1,0 +1,10 @@
+pub mod Bytes
+pub mod Modes
+pub mod Place
+pub mod Fronts
+pub mod Answers
+pub mod Laws
+pub mod Grammar
+pub mod Names
+pub mod Readings
+pub mod Runs

@@ -1,0 +1,53 @@
+//! Classes of bytes.
+
+ghost use Rattle.std.specs.Prelude.{◌≡◌, ◌≤◌, length};
+ghost use Rattle.sc_text.specs.Bytes.{is_white, is_break, is_digit, is_hex_digit, is_binary_digit, is_symbol_byte, line_feeds};
+
+/// Whether the byte is white space: a space, a tab, a line feed or a carriage return.
+pub fn is_white(byte: u8) -> bool
+    ensures { result ≡ is_white byte }
+{
+    matches!(byte, b' ' | b'\t' | b'\n' | b'\r')
+}
+
+/// Whether the byte ends a comment: a line feed or a carriage return.
+pub fn is_break(byte: u8) -> bool
+    ensures { result ≡ is_break byte }
+{
+    matches!(byte, b'\n' | b'\r')
+}
+
+pub(crate) fn is_digit(byte: u8) -> bool
+    ensures { result ≡ is_digit byte }
+{
+    byte.is_ascii_digit()
+}
+
+pub(crate) fn is_hex_digit(byte: u8) -> bool
+    ensures { result ≡ is_hex_digit byte }
+{
+    matches!(byte, b'0'..=b'9' | b'A'..=b'F' | b'a'..=b'f')
+}
+
+pub(crate) fn is_binary_digit(byte: u8) -> bool
+    ensures { result ≡ is_binary_digit byte }
+{
+    matches!(byte, b'0' | b'1')
+}
+
+/// Whether a simple symbol of SMT-LIB 2.6 may hold the byte: a letter, a digit or one of
+/// `~ ! @ $ % ^ & * _ - + = < > . ? /`.
+#[tactic(auto, unfolding(crate::specs::Bytes::is_symbol_byte))]
+pub fn is_symbol_byte(byte: u8) -> bool
+    ensures { result ≡ is_symbol_byte byte }
+{
+    byte.is_ascii_alphanumeric() || b"~!@$%^&*_-+=<>.?/".contains(&byte)
+}
+
+/// How many line feeds there are.
+pub(crate) fn line_feeds(bytes: &[u8]) -> usize
+    ensures count { result ≡ line_feeds bytes.now }
+    ensures within { result ≤ length bytes.now }
+{
+    bytes.iter().filter(|b| **b == b'\n').count()
+}

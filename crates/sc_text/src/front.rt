@@ -1,0 +1,118 @@
+//! What stands at the front of a text.
+
+ghost use Rattle.std.specs.Prelude.{◌≡◌, ◌≤◌, length, true, false};
+ghost use Rattle.sc_text.specs.Modes.{run};
+ghost use Rattle.sc_text.specs.Fronts.{gap_step, gap, front_of, front_at, run_fits, fits};
+
+use crate::bytes::{is_break, is_white};
+use crate::mode::{Mode, Step};
+use crate::token::Kind;
+
+/// The gap at the front of a text: white space and comments.
+#[derive(Clone, Copy)]
+pub struct Gap {
+    /// How many bytes it takes.
+    pub len: usize,
+    /// Whether it ends in a comment that could go on.
+    pub comment: bool,
+}
+
+/// Where a token ends.
+#[derive(Clone, Copy)]
+pub enum Run {
+    /// It takes so many bytes, and is of this kind.
+    Takes(usize, Kind),
+    /// All the bytes, so many, belong to it, and what has been read of it could go on.
+    Ends(usize, Mode),
+    /// No token begins so.
+    Fails,
+}
+
+/// What stands at the front of a text, behind its gap.
+#[derive(Clone, Copy)]
+pub enum Front {
+    /// Nothing: the gap is all of the text.
+    Nothing,
+    /// A token of this kind that takes so many bytes.
+    Token(Kind, usize),
+    /// A token or comment that could go on, where more bytes may follow.
+    Open,
+    /// Bytes that begin no token, or one that can't be finished.
+    Broken,
+}
+
+/// Whether a byte belongs to the gap, and if so, whether a comment could go on behind it.
+fn gap_step(comment: bool, byte: u8) -> Option<bool>
+    ensures { result ≡ gap_step comment byte }
+{
+    if comment {
+        Some(!is_break(byte))
+    } else if is_white(byte) {
+        Some(false)
+    } else {
+        (byte == b';').then_some(true)
+    }
+}
+
+/// The white space and comments at the front.
+pub(crate) fn gap_at(bytes: &[u8]) -> Gap
+    ensures gap { result ≡ gap false bytes.now }
+    ensures within { result.len ≤ length bytes.now }
+{
+    let mut comment = false;
+    for (i, byte) in bytes.iter().enumerate() {
+        match gap_step(comment, *byte) {
+            Some(next) => comment = next,
+            None => return Gap { len: i, comment },
+        }
+    }
+    Gap {
+        len: bytes.len(),
+        comment,
+    }
+}
+
+/// The token that begins with the first byte.
+pub(crate) fn run_at(bytes: &[u8]) -> Run
+    ensures run { result ≡ run Mode.Start bytes.now }
+    ensures within { run_fits (length bytes.now) result }
+{
+    let mut mode = Mode::Start;
+    for (i, byte) in bytes.iter().enumerate() {
+        match mode.step(*byte) {
+            Step::Go(next) => mode = next,
+            Step::Close(kind) => return Run::Takes(i + 1, kind),
+            Step::Stop(kind) => return Run::Takes(i, kind),
+            Step::Fault => return Run::Fails,
+        }
+    }
+    Run::Ends(bytes.len(), mode)
+}
+
+/// The token that begins with the first byte, or none.
+fn front_of(bytes: &[u8], last: bool) -> Front
+    ensures value { result ≡ front_of last (run Mode.Start bytes.now) }
+    ensures within { fits (length bytes.now) result }
+{
+    match run_at(bytes) {
+        Run::Takes(len, kind) => Front::Token(kind, len),
+        Run::Ends(_, _) if !last => Front::Open,
+        Run::Ends(len, mode) => match mode.whole() {
+            Some(kind) => Front::Token(kind, len),
+            None => Front::Broken,
+        },
+        Run::Fails => Front::Broken,
+    }
+}
+
+/// What stands behind a gap, which ended in a comment or not.
+pub(crate) fn front_at(bytes: &[u8], comment: bool, last: bool) -> Front
+    ensures value { result ≡ front_at last comment bytes.now }
+    ensures within { fits (length bytes.now) result }
+{
+    match bytes {
+        [] if comment && !last => Front::Open,
+        [] => Front::Nothing,
+        _ => front_of(bytes, last),
+    }
+}

@@ -1,0 +1,17 @@
+pub mod Finding
+pub mod Numbers
+pub mod Fields
+pub mod Loop
+pub mod Commands
+pub mod Scripts
+pub mod Gathered
+pub mod Responding
+pub mod Firsts
+pub mod Truths
+pub mod Ready
+pub mod Models
+pub mod Filling
+pub mod Satisfied
+pub mod Refuted
+pub mod Decisions
+pub mod Sorted
