@@ -1,0 +1,5 @@
+pub mod Sorts
+pub mod Heads
+pub mod Words
+pub mod Bars
+pub mod Spelling

@@ -1,0 +1,9 @@
+mod Lines
+mod Digits
+mod Bytes
+mod Values
+mod Tokens
+mod SymbolsBack
+mod NumbersBack
+mod ValuesBack
+mod ErrorsBack
