@@ -15,3 +15,4 @@ pub mod Satisfied
 pub mod Refuted
 pub mod Decisions
 pub mod Sorted
+pub mod Sizes

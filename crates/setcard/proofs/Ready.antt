@@ -24,7 +24,7 @@ insert_key-length : {X : Type 0} (eq : X → X → Bool) (ks : List X) (x : X) �
 insert_key-length eq ks x =
     elim (list_any (eq x) ks) as (λ b. length (cond b ks (ks ++ x ∷ [])) ≤ length ks + 1) [ true ↦ omega arith | false ↦ omega (arith, length-append ks (x ∷ [])) ]
 
-insert_all-length : {X : Type 0} (eq : X → X → Bool) (ks xs : List X) → length (insert_all eq ks xs) ≤ length ks + length xs
+pub insert_all-length : {X : Type 0} (eq : X → X → Bool) (ks xs : List X) → length (insert_all eq ks xs) ≤ length ks + length xs
 insert_all-length eq ks [] = omega arith
 insert_all-length eq ks (x ∷ xs) = omega (arith, insert_all-length eq (insert_key eq ks x) xs, insert_key-length eq ks x)
 
@@ -32,11 +32,11 @@ with_part-length : (a : Assertion) → length (with_part a) ≤ 2
 with_part-length a =
     elim a.is_positive as (λ b. length (cond b (a ∷ []) (a ∷ opposite a ∷ [])) ≤ 2) [ true ↦ omega arith | false ↦ omega arith ]
 
-parts-length : (xs : List Assertion) → length (flat_map with_part xs) ≤ 2 * length xs
+pub parts-length : (xs : List Assertion) → length (flat_map with_part xs) ≤ 2 * length xs
 parts-length [] = omega arith
 parts-length (x ∷ xs) = omega (arith, length-append (with_part x) (flat_map with_part xs), with_part-length x, parts-length xs)
 
-length-map : {X Y : Type 0} (f : X → Y) (xs : List X) → length (map f xs) ≡ length xs
+pub length-map : {X Y : Type 0} (f : X → Y) (xs : List X) → length (map f xs) ≡ length xs
 length-map f [] = refl
 length-map f (x ∷ xs) = ap suc (length-map f xs)
 

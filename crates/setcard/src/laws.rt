@@ -1,6 +1,6 @@
 //! Laws of the definitions.
 
-ghost use Rattle.setcard.specs.Laws.{AreScriptsUnique, ProblemsSayTheSame};
+ghost use Rattle.setcard.specs.Laws.{AreScriptsUnique, ProblemsSayTheSame, AreProblemsSmall};
 
 use sc_terms::meanings_fit;
 
@@ -15,3 +15,9 @@ pub(crate) fn problems_say_the_same()
 {
     meanings_fit();
 }
+
+/// A script has few commands, and so few terms: no limit on terms can be met.
+#[tactic(auto, using(crate::proofs::Sizes::problems_small))]
+pub(crate) fn problems_are_small()
+    ensures { AreProblemsSmall }
+{}

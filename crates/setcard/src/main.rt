@@ -1,8 +1,15 @@
 //! A solver for finite sets.
 //!
 //! `setcard solve` reads a script in the language of SMT-LIB 2.6 from standard input and writes
-//! its responses to standard output. So far a script declares one sort, constants of it and of its
-//! sets, asserts memberships and their negations, and has one check.
+//! its responses to standard output. A script that is answered declares one sort, then constants
+//! of it and of its sets, then asserts memberships and their negations, and ends with one
+//! `(check-sat)`; it has at most 1,000 commands and 16,777,216 bytes, and no comments. The response
+//! is `sat` or `unsat`. Every other text has the one response
+//! `(error "line 1: E8 outside the profile")`.
+//!
+//! The exit status is 0 where the script was answered, 1 where the error was printed, 2 where the
+//! words of the command line were refused, 3 after a read fault, 4 after a write fault, and 5 for
+//! want of memory.
 #![tactic(auto)]
 
 mod answer;

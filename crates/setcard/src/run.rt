@@ -100,8 +100,10 @@ fn respond<S: Source, O: Sink>(
 
 /// Answers the script that the source gives, and writes the responses to the sink.
 ///
-/// `workers` is how many threads work, 1 to 64; `budget` is how long is worked on each check; each
-/// worker passes the gate. The input is read to its end, or up to one byte more than the
+/// `_rt` is the runtime that the program was started with, and `alloc` gives all memory.
+/// `_workers` is how many threads work, 1 to 64; `_budget` is how long is worked on each check, 1
+/// to 2^40 steps; each worker passes the gate. The form of script that is read is decided at once,
+/// by the caller alone. The input is read to its end, or up to one byte more than the
 /// 16,777,216 that a script may have, before anything is written.
 ///
 /// The status is 0 where the text is a script that is answered, with one just verdict, and 1 where

@@ -167,7 +167,8 @@ fn limits(rt: HostRuntime) -> Result<(), Fail> {
 
 #[test]
 fn faults(rt: HostRuntime) -> Result<(), Fail> {
-    let script = b"(declare-sort U 0)(check-sat)";
+    let script =
+        b"(declare-sort U 0)\n(declare-const x U)\n(declare-const A (Set U))\n(assert (set.member x A))\n(check-sat)\n";
     let table: [(&[u64], &[u64], u8, &str); 6] = [
         (&[1], &[], 3, ""),
         (&[3], &[], 3, ""),
