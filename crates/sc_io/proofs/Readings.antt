@@ -7,7 +7,7 @@ use Rattle.sc_io.proofs.Known.{Consumes-none, Consumes-then}
 
 -- nothing was read yet
 pub nothing_read : (a : SourceMoment) → IsRead a a []
-nothing_read a = record { consumed = Consumes-none a.left; later = omega arith; unfailed = refl; steady = λ s. refl; sure = refl }
+nothing_read a = record { consumed = Consumes-none a.left; later = omega arith; unfailed = refl; steady = λ s. refl; same = refl }
 
 -- some bytes were read, and then some more
 pub then_read : (a b c : SourceMoment) (x y : List ℕ) → IsRead a b x → IsRead b c y → IsRead a c (x ++ y)
@@ -15,8 +15,8 @@ then_read a b c x y p q = record {
   consumed = Consumes-then a.left b.left c.left x y p.consumed q.consumed;
   later = omega (arith, p.later, q.later);
   unfailed = q.unfailed ∙ p.unfailed;
-  steady = λ s. q.steady (p.sure ∙ s) ∙ p.steady s;
-  sure = q.sure ∙ p.sure;
+  steady = λ s. q.steady (p.same ∙ s) ∙ p.steady s;
+  same = q.same ∙ p.same;
 }
 
 -- some bytes were read, and then some more up to a fault
@@ -27,6 +27,6 @@ then_read_to_fault a b c x y p q = record {
   rose = omega (arith, p.later, q.rose);
   failed = q.failed ∙ ap (λ (n : ℕ). next_count n) p.unfailed;
   last = q.last;
-  not_sure = sym p.sure ∙ q.not_sure;
-  sure = q.sure ∙ p.sure;
+  may_fail = sym p.same ∙ q.may_fail;
+  same = q.same ∙ p.same;
 }

@@ -1,17 +1,20 @@
 -- Writes one after another.
-use Rattle.std.proofs.Common.{◌≡◌, ◌<◌, ℕ, ◌-◌, List, [], ◌∷◌, ◌++◌, length, take, drop, refl, sym, ap, ◌∙◌, subst, append_assoc, false, Result, Ok, Err, arith}
+use Rattle.std.proofs.Common.{◌≡◌, ◌<◌, ℕ, ◌-◌, List, [], ◌∷◌, ◌++◌, length, take, drop, refl, sym, ap, ◌∙◌, subst, append_assoc, Result, Ok, Err, arith}
 use Rattle.std.proofs.lemmas.List.{take-append-drop, append-nil, length-append}
 use Rattle.std.proofs.lemmas.Grind.{common_steps}
 use Rattle.sc_io.specs.Counts.{next_count}
 use Rattle.sc_io.specs.Moments.{SinkMoment}
-use Rattle.sc_io.specs.Writing.{IsWritten, IsWrittenToFault, IsCutShort, IsCutByMemory, IsCutByFault, PutGives}
+use Rattle.sc_io.specs.Writing.{IsSameSink, IsWritten, IsWrittenToFault, IsWrittenToWant, IsCutByMemory, IsCutByFault, PutGives}
 use Rattle.sc_io.specs.declared.put.PutError.{PutError}
 use Rattle.sc_io.specs.declared.put.PutError.TheVariants as errors
 use Rattle.sc_io.proofs.Known.{Appends-none, Appends-then}
 
 -- nothing was written yet
 pub nothing_written : (a : SinkMoment) → IsWritten a a []
-nothing_written a = record { appended = Appends-none a.written; later = omega arith; unfailed = refl; steady = λ s. refl; sure = refl; roomy = refl }
+nothing_written a = record { appended = Appends-none a.written; later = omega arith; unfailed = refl; unwanting = refl; steady = λ s. refl; same = record { failing = refl; memory = refl } }
+
+then_same : (a b c : SinkMoment) → IsSameSink a b → IsSameSink b c → IsSameSink a c
+then_same a b c p q = record { failing = q.failing ∙ p.failing; memory = q.memory ∙ p.memory }
 
 -- some bytes were written, and then some more
 pub then_written : (a b c : SinkMoment) (x y : List ℕ) → IsWritten a b x → IsWritten b c y → IsWritten a c (x ++ y)
@@ -19,9 +22,9 @@ then_written a b c x y p q = record {
   appended = Appends-then a.written b.written c.written x y p.appended q.appended;
   later = omega (arith, p.later, q.later);
   unfailed = q.unfailed ∙ p.unfailed;
-  steady = λ s. q.steady (p.sure ∙ s) ∙ p.steady s;
-  sure = q.sure ∙ p.sure;
-  roomy = q.roomy ∙ p.roomy;
+  unwanting = q.unwanting ∙ p.unwanting;
+  steady = λ s. q.steady (p.same.failing ∙ s) ∙ p.steady s;
+  same = then_same a b c p.same q.same;
 }
 
 -- some bytes were written, and then some more up to a fault
@@ -32,9 +35,22 @@ then_written_to_fault a b c x y p q = record {
   rose = omega (arith, p.later, q.rose);
   failed = q.failed ∙ ap (λ (n : ℕ). next_count n) p.unfailed;
   last = q.last;
-  not_sure = sym p.sure ∙ q.not_sure;
-  sure = q.sure ∙ p.sure;
-  roomy = q.roomy ∙ p.roomy;
+  unwanting = q.unwanting ∙ p.unwanting;
+  may_fail = sym p.same.failing ∙ q.may_fail;
+  same = then_same a b c p.same q.same;
+}
+
+-- some bytes were written, and then some more up to want of memory
+pub then_written_to_want : (a b c : SinkMoment) (x y : List ℕ) → IsWritten a b x → IsWrittenToWant b c y → IsWrittenToWant a c (x ++ y)
+then_written_to_want a b c x y p q = record {
+  appended = Appends-then a.written b.written c.written x y p.appended q.appended;
+  later = omega (arith, p.later, q.later);
+  unfailed = q.unfailed ∙ p.unfailed;
+  wanted = q.wanted ∙ ap (λ (n : ℕ). next_count n) p.unwanting;
+  last = q.last;
+  steady = λ s. q.steady (p.same.failing ∙ s) ∙ p.steady s;
+  may_want = sym p.same.memory ∙ q.may_want;
+  same = then_same a b c p.same q.same;
 }
 
 -- a front of some bytes, put behind others
@@ -50,22 +66,13 @@ left_before : (rest y : List ℕ) → 0 < length rest → 0 < length (rest ++ y)
 left_before rest y p = omega (arith, length-append rest y, p)
 
 -- some bytes were written, and then a front of others
-pub then_cut_short : (a b c : SinkMoment) (x y : List ℕ) → IsWritten a b x → IsCutShort b c y → IsCutShort a c (x ++ y)
-then_cut_short a b c x y p q = record {
-  front = x ++ q.front;
-  rest = q.rest;
-  parts = parts_after x y q.front q.rest q.parts;
-  written = then_written a b c x q.front p q.written;
-}
-
 pub then_cut_by_memory : (a b c : SinkMoment) (x y : List ℕ) → IsWritten a b x → IsCutByMemory b c y → IsCutByMemory a c (x ++ y)
 then_cut_by_memory a b c x y p q = record {
   front = x ++ q.front;
   rest = q.rest;
   parts = parts_after x y q.front q.rest q.parts;
   left = q.left;
-  written = then_written a b c x q.front p q.written;
-  not_roomy = sym p.roomy ∙ q.not_roomy;
+  written = then_written_to_want a b c x q.front p q.written;
 }
 
 pub then_cut_by_fault : (a b c : SinkMoment) (x y : List ℕ) → IsWritten a b x → IsCutByFault b c y → IsCutByFault a c (x ++ y)
@@ -78,9 +85,6 @@ then_cut_by_fault a b c x y p q = record {
 }
 
 -- what was cut within some bytes was cut within more
-pub cut_short_within : (a b : SinkMoment) (x y : List ℕ) → IsCutShort a b x → IsCutShort a b (x ++ y)
-cut_short_within a b x y p = record { front = p.front; rest = p.rest ++ y; parts = parts_before x y p.front p.rest p.parts; written = p.written }
-
 pub cut_by_memory_within : (a b : SinkMoment) (x y : List ℕ) → IsCutByMemory a b x → IsCutByMemory a b (x ++ y)
 cut_by_memory_within a b x y p = record {
   front = p.front;
@@ -88,7 +92,6 @@ cut_by_memory_within a b x y p = record {
   parts = parts_before x y p.front p.rest p.parts;
   left = left_before p.rest y p.left;
   written = p.written;
-  not_roomy = p.not_roomy;
 }
 
 pub cut_by_fault_within : (a b : SinkMoment) (x y : List ℕ) → IsCutByFault a b x → IsCutByFault a b (x ++ y)
@@ -99,18 +102,6 @@ cut_by_fault_within a b x y p = record {
   left = left_before p.rest y p.left;
   written = p.written;
 }
-
--- the same bytes, cut for want of the sink's memory
-pub cut_short : (a b : SinkMoment) (x : List ℕ) → IsCutByMemory a b x → IsCutShort a b x
-cut_short a b x p = record { front = p.front; rest = p.rest; parts = p.parts; written = p.written }
-
--- all of the bytes are a front of more
-pub written_short : (a b : SinkMoment) (x y : List ℕ) → IsWritten a b x → IsCutShort a b (x ++ y)
-written_short a b x y p = record { front = x; rest = y; parts = refl; written = p }
-
--- nothing was written yet of some bytes
-pub nothing_short : (a : SinkMoment) (x : List ℕ) → IsCutShort a a x
-nothing_short a x = record { front = []; rest = x; parts = refl; written = nothing_written a }
 
 -- some bytes were written, and then a piece was put
 pub then_put : (a b c : SinkMoment) (x y : List ℕ) (r : Result (Unit {0}) PutError) → IsWritten a b x → PutGives b c y r → PutGives a c (x ++ y) r
@@ -156,12 +147,11 @@ stops_by_fault a b c piece rest left w f = record {
   written = subst (IsWrittenToFault a c) (append-nil w.front) (then_written_to_fault a b c w.front [] w.written f);
 }
 
-pub stops_by_memory : (a b c : SinkMoment) (piece rest : List ℕ) → 0 < length rest → IsPutting a b piece rest → b.is_roomy ≡ false → IsWritten b c [] → IsCutByMemory a c piece
-stops_by_memory a b c piece rest left w m f = record {
+pub stops_by_memory : (a b c : SinkMoment) (piece rest : List ℕ) → 0 < length rest → IsPutting a b piece rest → IsWrittenToWant b c [] → IsCutByMemory a c piece
+stops_by_memory a b c piece rest left w f = record {
   front = w.front;
   rest = rest;
   parts = w.parts;
   left = left;
-  written = subst (IsWritten a c) (append-nil w.front) (then_written a b c w.front [] w.written f);
-  not_roomy = sym w.written.roomy ∙ m;
+  written = subst (IsWrittenToWant a c) (append-nil w.front) (then_written_to_want a b c w.front [] w.written f);
 }

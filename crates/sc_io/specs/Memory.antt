@@ -18,7 +18,7 @@ pub record MemoryInput : Type 0 where
   pub faults : ℕ
   pub has_failed : Bool
 
--- A sink in memory: the bytes that were written, and the rest as for a source.
+-- A sink in memory: the bytes that were written, how often a call wanted memory, whether the last one did, and the rest as for a source.
 pub record MemoryOutput : Type 0 where
   pub written : List ℕ
   pub failing : List ℕ
@@ -26,6 +26,8 @@ pub record MemoryOutput : Type 0 where
   pub calls : ℕ
   pub faults : ℕ
   pub has_failed : Bool
+  pub wants : ℕ
+  pub has_wanted : Bool
 
 -- Whether the next call fails: its number, counted from 1, is listed.
 abbrev pub fails_next : List ℕ → ℕ → Bool
@@ -37,15 +39,15 @@ fresh_input bytes failing most = record { left = bytes; failing = failing; most 
 
 -- a sink on which no call was made
 abbrev pub fresh_output : List ℕ → ℕ → MemoryOutput
-fresh_output failing most = record { written = []; failing = failing; most = most; calls = 0; faults = 0; has_failed = false }
+fresh_output failing most = record { written = []; failing = failing; most = most; calls = 0; faults = 0; has_failed = false; wants = 0; has_wanted = false }
 
 -- A source in memory as any source: with an empty list it never fails.
 abbrev pub input_moment : MemoryInput → SourceMoment
-input_moment s = record { left = Some s.left; faults = s.faults; answers = s.faults; has_failed = s.has_failed; is_sure = length s.failing == 0 }
+input_moment s = record { left = Some s.left; faults = s.faults; failed_answers = s.faults; has_failed = s.has_failed; never_fails = length s.failing == 0 }
 
 -- A sink in memory as any sink: with an empty list it never fails, and it may always want memory.
 abbrev pub output_moment : MemoryOutput → SinkMoment
-output_moment s = record { written = Some s.written; faults = s.faults; answers = s.faults; has_failed = s.has_failed; is_sure = length s.failing == 0; is_roomy = false }
+output_moment s = record { written = Some s.written; faults = s.faults; failed_answers = s.faults; has_failed = s.has_failed; wants = s.wants; has_wanted = s.has_wanted; never_fails = length s.failing == 0; never_lacks_memory = false }
 
 -- what a read into a buffer of so many bytes answers
 abbrev pub read_answer : MemoryInput → ℕ → Got
@@ -71,6 +73,6 @@ MayAnswer s size wrote.Memory = fails_next s.failing s.calls ≡ false
 
 -- the sink after a write of a piece with this answer
 abbrev pub after_write : MemoryOutput → List ℕ → Wrote → MemoryOutput
-after_write s piece (wrote.Took n) = record s { written = s.written ++ take n piece; calls = next_count s.calls; has_failed = false }
-after_write s piece wrote.Failed = record s { calls = next_count s.calls; faults = next_count s.faults; has_failed = true }
-after_write s piece wrote.Memory = record s { calls = next_count s.calls; has_failed = false }
+after_write s piece (wrote.Took n) = record s { written = s.written ++ take n piece; calls = next_count s.calls; has_failed = false; has_wanted = false }
+after_write s piece wrote.Failed = record s { calls = next_count s.calls; faults = next_count s.faults; has_failed = true; has_wanted = false }
+after_write s piece wrote.Memory = record s { calls = next_count s.calls; has_failed = false; wants = next_count s.wants; has_wanted = true }

@@ -10,19 +10,19 @@ use Rattle.sc_io.specs.declared.source.Got.TheVariants as got
 pub record IsRead (before after : SourceMoment) (bytes : List ℕ) : Type 0 where
   pub consumed : Consumes before.left after.left bytes
   pub later : before.faults ≤ after.faults
-  pub unfailed : after.answers ≡ before.answers
-  pub steady : before.is_sure ≡ true → after.faults ≡ before.faults
-  pub sure : after.is_sure ≡ before.is_sure
+  pub unfailed : after.failed_answers ≡ before.failed_answers
+  pub steady : before.never_fails ≡ true → after.faults ≡ before.faults
+  pub same : after.never_fails ≡ before.never_fails
 
 -- these bytes were taken, and then the last read failed, and no other
 pub record IsReadToFault (before after : SourceMoment) (bytes : List ℕ) : Type 0 where
   pub consumed : Consumes before.left after.left bytes
   pub later : before.faults ≤ after.faults
   pub rose : Rose before.faults after.faults
-  pub failed : after.answers ≡ next_count before.answers
+  pub failed : after.failed_answers ≡ next_count before.failed_answers
   pub last : after.has_failed ≡ true
-  pub not_sure : before.is_sure ≡ false
-  pub sure : after.is_sure ≡ before.is_sure
+  pub may_fail : before.never_fails ≡ false
+  pub same : after.never_fails ≡ before.never_fails
 
 -- a read gives the next bytes, at least one; at the end there is none, and a failed read takes none
 abbrev pub ReadGives : SourceMoment → SourceMoment → List ℕ → Got → Type 0

@@ -1,8 +1,8 @@
 //! Where bytes come from and where they go.
 //!
 //! A [`Source`] gives bytes and a [`Sink`] takes them, a piece at a time. Each counts its faults,
-//! and a call answers `Failed` only where that count rose in it, so that whoever reads or writes
-//! can tell from the outside whether a fault was real.
+//! and a call answers `Failed` only where that count rose in it or stands at its last value, so
+//! that whoever reads or writes can tell from the outside whether a fault was real.
 //!
 //! [`MemorySource`] and [`MemorySink`] keep their bytes in memory and fail at the calls that they
 //! are told to. [`ReaderSource`] and [`WriterSink`] are the edge over std's readers and writers.

@@ -11,7 +11,7 @@ use std::marker::Model;
 /// Bytes in memory, with a list of the calls that fail and a largest piece.
 ///
 /// Contracts see the bytes that were written, the list, the largest piece, the number of calls so
-/// far, how many of them failed, and whether the last did.
+/// far, how many of them failed and how many wanted memory, and whether the last did.
 #[derive(Drop)]
 pub struct MemorySink {
     bytes: Vec<u8>,
@@ -20,6 +20,8 @@ pub struct MemorySink {
     calls: u64,
     faults: u64,
     has_failed: bool,
+    wants: u64,
+    has_wanted: bool,
 }
 
 impl Model for MemorySink {
@@ -35,6 +37,8 @@ impl Model for MemorySink {
       calls = s.calls;
       faults = s.faults;
       has_failed = s.has_failed;
+      wants = s.wants;
+      has_wanted = s.has_wanted;
     } };
 
     ghost invariant = { λ s. 1 ≤ s.most };
@@ -56,6 +60,8 @@ impl MemorySink {
             calls: 0,
             faults: 0,
             has_failed: false,
+            wants: 0,
+            has_wanted: false,
         }
     }
 
@@ -79,6 +85,13 @@ impl MemorySink {
     {
         self.faults
     }
+
+    /// How many calls wanted memory, at most 2^64 - 1.
+    pub fn wants(&self) -> u64
+        ensures { result ≡ self.now.wants }
+    {
+        self.wants
+    }
 }
 
 impl Sink for MemorySink {
@@ -95,13 +108,16 @@ impl Sink for MemorySink {
         self.calls = self.calls.saturating_add(1);
         self.has_failed = self.failing.contains(&self.calls);
         if self.has_failed {
+            self.has_wanted = false;
             self.faults = self.faults.saturating_add(1);
             return Wrote::Failed;
         }
         let count = self.most.min(piece.len());
-        match self.bytes.extend_from_slice(&piece[..count]) {
-            Ok(()) => Wrote::Took(count),
-            Err(_) => Wrote::Memory,
+        self.has_wanted = self.bytes.extend_from_slice(&piece[..count]).is_err();
+        if self.has_wanted {
+            self.wants = self.wants.saturating_add(1);
+            return Wrote::Memory;
         }
+        Wrote::Took(count)
     }
 }

@@ -18,11 +18,11 @@ pub enum PutError {
 
 /// Writes the whole piece, or a front of it with an error; an empty piece makes no call.
 ///
-/// It ends at the first call that takes nothing, and after it makes no other. So `Ok` says that no
-/// call failed, and [`PutError::Sink`] that the last one did, and no other: only where the sink's
-/// count of faults rose in this call or stands at 2^64 - 1, and never from a sink that never fails.
-/// [`PutError::Memory`] comes only from a sink that may lack memory. With either error some byte
-/// of the piece is not written.
+/// It ends at the first call that takes nothing. So `Ok` says that no call failed or wanted memory;
+/// [`PutError::Sink`] that the last call failed, and no other, which comes only where the sink's
+/// count of faults rose in this call or stands at 2^64 - 1, and never from a sink that never fails;
+/// and [`PutError::Memory`] that the last call wanted memory, and no other, which never comes from
+/// a sink that never lacks it. With either error some byte of the piece is not written.
 pub fn put_all<O: Sink>(out: &mut O, piece: &[u8]) -> Result<(), PutError>
     ensures { PutGives (O.moment out.old) (O.moment out.new) piece.now result }
 {

@@ -40,6 +40,6 @@ returns-clause-gives c =
         later = omega arith;
         unfailed = refl;
         steady = λ s. refl;
-        sure = refl;
+        same = refl;
       }),
     )
