@@ -1,3 +1,6 @@
+pub mod BankMeanings
+pub mod Grown
+pub mod Puts
 mod Copies
 mod Distinct
 mod Entries

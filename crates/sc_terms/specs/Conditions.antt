@@ -10,6 +10,7 @@ use Rattle.sc_terms.specs.declared.nodes.SetTerm.TheVariants as sets
 use Rattle.sc_terms.specs.declared.nodes.Formula.{Formula}
 use Rattle.sc_terms.specs.declared.nodes.Formula.TheVariants as formulas
 use Rattle.sc_terms.specs.declared.problem.Parts.{Parts}
+use Rattle.sc_terms.specs.Forms.{IsForm}
 use Rattle.sc_terms.specs.Lookup.{formula_at, set_at, element_at, basis_of, is_listed}
 use Rattle.sc_terms.specs.Meaning.{Interpretation, IsInterpretation, Fits}
 use Rattle.sc_terms.specs.Values.{node_count, meaning}
@@ -36,9 +37,13 @@ SetIn problem (sets.Union s t) = IsIn (length problem.sets) s × IsIn (length pr
 SetIn problem (sets.Inter s t) = IsIn (length problem.sets) s × IsIn (length problem.sets) t
 SetIn problem (sets.Minus s t) = IsIn (length problem.sets) s × IsIn (length problem.sets) t
 
+-- the form is in order, and its terms are there
+abbrev pub FormIn : Parts → List (ℤ × Atom) → Type 0
+FormIn problem form = IsForm form × AllByRecursion (TermIn problem) form
+
 abbrev pub ElementIn : Parts → Element → Type 0
 ElementIn problem (elements.Const c sort) = ⊤
-ElementIn problem (elements.Number affine) = AllByRecursion (TermIn problem) affine.form × (unsigned_abs affine.constant < 2 ^ 126)
+ElementIn problem (elements.Number affine) = FormIn problem affine.form × (unsigned_abs affine.constant < 2 ^ 126)
 ElementIn problem (elements.Diff s t) = IsIn (length problem.sets) s × IsIn (length problem.sets) t
 
 abbrev pub FormulaIn : Parts → Formula → Type 0
@@ -52,7 +57,7 @@ FormulaIn problem (formulas.Iff f g) = IsIn (length problem.formulas) f × IsIn 
 FormulaIn problem (formulas.Eq e f) = IsIn (length problem.elements) e × IsIn (length problem.elements) f
 FormulaIn problem (formulas.EqSet s t) = IsIn (length problem.sets) s × IsIn (length problem.sets) t
 FormulaIn problem (formulas.Member e s) = IsIn (length problem.elements) e × IsIn (length problem.sets) s
-FormulaIn problem (formulas.Le row) = AllByRecursion (TermIn problem) row.form
+FormulaIn problem (formulas.Le row) = FormIn problem row.form
 
 -- a rank of each node
 pub record Ranks : Type 0 where

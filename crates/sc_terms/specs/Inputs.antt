@@ -14,6 +14,8 @@ use Rattle.sc_terms.specs.declared.nodes.SetTerm.{SetTerm}
 use Rattle.sc_terms.specs.declared.nodes.SetTerm.TheVariants as sets
 use Rattle.sc_terms.specs.declared.nodes.Formula.{Formula}
 use Rattle.sc_terms.specs.declared.nodes.Formula.TheVariants as formulas
+use Rattle.sc_terms.specs.declared.nodes.Node.{Node}
+use Rattle.sc_terms.specs.declared.nodes.Node.TheVariants as nodes
 
 abbrev pub sign_input : Sign → List (List ℕ)
 sign_input Plus = fed.u8 0
@@ -53,6 +55,20 @@ element_input (elements.Const n sort) = fed.u8 0 ++ fed.u32 n
 element_input (elements.Number affine) = fed.u8 1 ++ affine_input affine
 element_input (elements.Diff a b) = fed.u8 2 ++ fed.u32 a ++ fed.u32 b
 
+-- the place of the variant among the variants of formulas
+abbrev pub formula_kind : Formula → ℕ
+formula_kind formulas.True = 0
+formula_kind formulas.False = 1
+formula_kind (formulas.Flag n) = 2
+formula_kind (formulas.Not n) = 3
+formula_kind (formulas.And parts) = 4
+formula_kind (formulas.Or parts) = 5
+formula_kind (formulas.Iff a b) = 6
+formula_kind (formulas.Eq a b) = 7
+formula_kind (formulas.EqSet a b) = 8
+formula_kind (formulas.Member a b) = 9
+formula_kind (formulas.Le row) = 10
+
 abbrev pub formula_input : Formula → List (List ℕ)
 formula_input formulas.True = fed.u8 0
 formula_input formulas.False = fed.u8 1
@@ -65,3 +81,8 @@ formula_input (formulas.Eq a b) = fed.u8 7 ++ fed.u32 a ++ fed.u32 b
 formula_input (formulas.EqSet a b) = fed.u8 8 ++ fed.u32 a ++ fed.u32 b
 formula_input (formulas.Member a b) = fed.u8 9 ++ fed.u32 a ++ fed.u32 b
 formula_input (formulas.Le row) = fed.u8 10 ++ row_input row
+
+abbrev pub node_input : Node → List (List ℕ)
+node_input (nodes.Formula f) = fed.u8 0 ++ formula_input f
+node_input (nodes.Set s) = fed.u8 1 ++ set_input s
+node_input (nodes.Element e) = fed.u8 2 ++ element_input e

@@ -7,3 +7,5 @@ pub mod Meaning
 pub mod Values
 pub mod Conditions
 pub mod Literals
+pub mod Bank
+pub mod BankValues

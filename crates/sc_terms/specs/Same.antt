@@ -21,6 +21,8 @@ use Rattle.sc_terms.specs.declared.nodes.SetTerm.{SetTerm}
 use Rattle.sc_terms.specs.declared.nodes.SetTerm.TheVariants as sets
 use Rattle.sc_terms.specs.declared.nodes.Element.{Element}
 use Rattle.sc_terms.specs.declared.nodes.Element.TheVariants as elements
+use Rattle.sc_terms.specs.declared.nodes.Node.{Node}
+use Rattle.sc_terms.specs.declared.nodes.Node.TheVariants as nodes
 
 abbrev pub same_truth : Bool → Bool → Bool
 same_truth true b = b
@@ -175,3 +177,15 @@ same_element-Decides (elements.Const m s) (elements.Const n t) = two_parts _ _ e
 same_element-Decides (elements.Number a) (elements.Number b) = one_part elements.Number (same_affine-Decides a b) (λ e. cc)
 same_element-Decides (elements.Diff a b) (elements.Diff c d) = two_parts _ _ elements.Diff (unsigned_Decides a c) (unsigned_Decides b d) (λ e. cc) (λ e. cc)
 same_element-Decides _ _ = (λ e. absurd (false≢true e), λ e. cc)
+
+abbrev pub same_node : Node → Node → Bool
+same_node (nodes.Formula a) (nodes.Formula b) = same_formula a b
+same_node (nodes.Set a) (nodes.Set b) = same_set a b
+same_node (nodes.Element a) (nodes.Element b) = same_element a b
+same_node _ _ = false
+
+pub same_node-Decides : (a b : Node) → Decides (same_node a b) (a ≡ b)
+same_node-Decides (nodes.Formula a) (nodes.Formula b) = one_part nodes.Formula (same_formula-Decides a b) (λ e. cc)
+same_node-Decides (nodes.Set a) (nodes.Set b) = one_part nodes.Set (same_set-Decides a b) (λ e. cc)
+same_node-Decides (nodes.Element a) (nodes.Element b) = one_part nodes.Element (same_element-Decides a b) (λ e. cc)
+same_node-Decides _ _ = (λ e. absurd (false≢true e), λ e. cc)

@@ -71,7 +71,7 @@ pub enum Value {
 
 impl Value {
     /// A set's spans are in order and apart.
-    pub fn keeps_order(&self)
+    fn keeps_order(&self)
         ensures { IsProper self.now }
     {
         if let Value::Set(members) = self {

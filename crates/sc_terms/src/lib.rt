@@ -4,6 +4,7 @@
 #![tactic(auto)]
 
 mod atoms;
+mod bank;
 mod form;
 mod interp;
 mod laws;
@@ -15,10 +16,14 @@ mod problem;
 mod tests;
 
 pub use atoms::{Atom, Cube, Sign, Signs};
+pub use bank::{Bank, BankError, LIMIT};
 pub use form::{Affine, Form, Row};
 pub use interp::{Interp, Members, Value};
-pub use laws::{cubes_ascend_as_words, literals_make_problem, meanings_fit};
+pub use laws::{
+    bank_grows, bank_meanings_fit, bank_nodes, bank_sorts, bank_with_node, cubes_ascend_as_words,
+    literals_make_problem, meanings_fit, meanings_stay,
+};
 pub use memory::Memory;
-pub use nodes::{Element, Formula, Numbers, SetTerm, Sort};
+pub use nodes::{Element, Formula, Node, Numbers, SetTerm, Sort};
 pub use problem::{Bases, Counts, Elements, Formulas, Parts, Problem, Sets};
 pub use sc_base::{Sequence, Span, item_at};

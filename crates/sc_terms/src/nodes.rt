@@ -1,4 +1,7 @@
-//! The nodes of a problem: sorts, formulas, set terms and elements, which name their parts by numbers that count from 1.
+//! The nodes of banks and problems: sorts, formulas, set terms and elements, which name their parts by numbers that count from 1.
+
+ghost use Rattle.std.specs.Prelude.{◌≡◌};
+ghost use Rattle.sc_terms.specs.Inputs.{formula_kind};
 
 use crate::form::{Affine, Row};
 use sc_base::Sequence;
@@ -76,6 +79,14 @@ pub enum Element {
     Number(Affine),
     /// The least integer in exactly one of two sets, the lower-numbered first, or 0 where they are equal.
     Diff(u32, u32),
+}
+
+/// A formula, a set term or an element.
+#[derive(Drop)]
+pub enum Node {
+    Formula(Formula),
+    Set(SetTerm),
+    Element(Element),
 }
 
 impl PartialEq for Sort {
@@ -260,6 +271,25 @@ impl Hash for Element {
     }
 }
 
+/// The place of the variant among the variants of formulas.
+fn formula_kind(formula: &Formula) -> u8
+    ensures { result ≡ formula_kind formula.now }
+{
+    match formula {
+        Formula::True => 0,
+        Formula::False => 1,
+        Formula::Flag(_) => 2,
+        Formula::Not(_) => 3,
+        Formula::And(_) => 4,
+        Formula::Or(_) => 5,
+        Formula::Iff(_, _) => 6,
+        Formula::Eq(_, _) => 7,
+        Formula::EqSet(_, _) => 8,
+        Formula::Member(_, _) => 9,
+        Formula::Le(_) => 10,
+    }
+}
+
 impl Hash for Formula {
     ghost use Rattle.std.proofs.Common.{ap};
     ghost use Rattle.sc_terms.specs.Same.{same_formula-Decides};
@@ -270,52 +300,68 @@ impl Hash for Formula {
     ghost respects_eq = { λ x y e. ap formula_input ((same_formula-Decides x y).0 e) };
 
     fn hash<H: Hasher>(&self, state: &mut H) {
+        state.write_u8(formula_kind(self));
         match self {
-            Formula::True => {
+            Formula::True | Formula::False => {}
+            Formula::Flag(n) | Formula::Not(n) => n.hash(state),
+            Formula::And(parts) | Formula::Or(parts) => parts.hash(state),
+            Formula::Iff(a, b) | Formula::Eq(a, b) | Formula::EqSet(a, b) | Formula::Member(a, b) =>
+                {
+                    a.hash(state);
+                    b.hash(state);
+                }
+            Formula::Le(row) => row.hash(state),
+        }
+    }
+}
+
+impl PartialEq for Node {
+    ghost use Rattle.std.specs.Cmp.{partial_equiv_from_equiv, decided};
+    ghost use Rattle.sc_terms.specs.Same.{same_node, same_node-Decides};
+
+    ghost eq = { same_node };
+
+    ghost laws = { partial_equiv_from_equiv (decided same_node same_node-Decides) };
+
+    fn eq(&self, other: &Node) -> bool {
+        match (self, other) {
+            (Node::Formula(f), Node::Formula(g)) => f == g,
+            (Node::Set(s), Node::Set(t)) => s == t,
+            (Node::Element(e), Node::Element(f)) => e == f,
+            _ => false,
+        }
+    }
+}
+
+impl Eq for Node {
+    ghost use Rattle.std.specs.Cmp.{decided};
+    ghost use Rattle.sc_terms.specs.Same.{same_node, same_node-Decides};
+
+    ghost laws = { decided same_node same_node-Decides };
+}
+
+impl Hash for Node {
+    ghost use Rattle.std.proofs.Common.{ap};
+    ghost use Rattle.sc_terms.specs.Same.{same_node-Decides};
+    ghost use Rattle.sc_terms.specs.Inputs.{node_input};
+
+    ghost hash_input = { node_input };
+
+    ghost respects_eq = { λ x y e. ap node_input ((same_node-Decides x y).0 e) };
+
+    fn hash<H: Hasher>(&self, state: &mut H) {
+        match self {
+            Node::Formula(formula) => {
                 state.write_u8(0);
+                formula.hash(state);
             }
-            Formula::False => {
+            Node::Set(set) => {
                 state.write_u8(1);
+                set.hash(state);
             }
-            Formula::Flag(n) => {
+            Node::Element(element) => {
                 state.write_u8(2);
-                n.hash(state);
-            }
-            Formula::Not(n) => {
-                state.write_u8(3);
-                n.hash(state);
-            }
-            Formula::And(parts) => {
-                state.write_u8(4);
-                parts.hash(state);
-            }
-            Formula::Or(parts) => {
-                state.write_u8(5);
-                parts.hash(state);
-            }
-            Formula::Iff(a, b) => {
-                state.write_u8(6);
-                a.hash(state);
-                b.hash(state);
-            }
-            Formula::Eq(a, b) => {
-                state.write_u8(7);
-                a.hash(state);
-                b.hash(state);
-            }
-            Formula::EqSet(a, b) => {
-                state.write_u8(8);
-                a.hash(state);
-                b.hash(state);
-            }
-            Formula::Member(a, b) => {
-                state.write_u8(9);
-                a.hash(state);
-                b.hash(state);
-            }
-            Formula::Le(row) => {
-                state.write_u8(10);
-                row.hash(state);
+                element.hash(state);
             }
         }
     }

@@ -69,6 +69,14 @@ impl Model for Problem {
 
 impl Problem {
     /// The problem that these lists make; takes no memory.
+    ///
+    /// The lists keep these conditions:
+    /// - Each number of a formula, set term, element, Int constant or component that stands in them counts from 1 up to the length of its list.
+    /// - There are as many assertions as roots, and as many bases as components.
+    /// - In each form of an inequality or Int term the atoms ascend, and each coefficient, and an Int term's constant, is below 2^126 in size; no coefficient is 0.
+    /// - No node is a part of itself, at any depth. A region's parts are the sets of its component's basis.
+    /// - An empty set stands in no component, and each other set term in one, once.
+    /// - There are fewer than 2^32 formulas, set terms, elements and components each.
     pub fn from_parts(parts: Parts) -> Problem
         requires { IsProblem parts }
         ensures { result ≡ parts }

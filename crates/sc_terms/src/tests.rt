@@ -1,6 +1,7 @@
-//! Tests of problems, interpretations and copies, with ample memory.
+//! Tests of banks, problems, interpretations and copies, with ample memory.
 
 ghost use Rattle.std.specs.Prelude.{IfOk};
+ghost use Rattle.sc_terms.specs.Bank.{IsFormulaOf, IsSetOf, IsElementOf};
 ghost use Rattle.sc_terms.specs.Literals.{IsOfLiterals};
 
 use super::*;
@@ -72,18 +73,120 @@ fn last_value_of_a_constant_counts(rt: HostRuntime) -> Result<(), Fail> {
     Ok(())
 }
 
-/// Whether a copy of the region is equal to it.
-fn is_copied(cube: &Cube) -> Result<bool, Fail> {
-    let copy = cube.clone()?;
-    Ok(copy == *cube)
+/// Formulas with lists and forms of each kind of atom.
+fn some_formulas(alloc: Global) -> Result<Formulas, Memory> {
+    let mut formulas = Formulas::new(alloc);
+    formulas.push(Formula::Flag(4))?;
+    formulas.push(Formula::Or(Numbers::from_slice(alloc, &[1, 1])?))?;
+    formulas.push(Formula::Member(1, 2))?;
+    formulas.push(Formula::Le(Row {
+        form: one_term(alloc, Atom::Card(3))?,
+        bound: -1,
+    }))?;
+    formulas.push(Formula::Le(Row {
+        form: one_term(alloc, region(alloc)?)?,
+        bound: i128::MIN,
+    }))?;
+    Ok(formulas)
+}
+
+/// Elements of each kind.
+fn some_elements(alloc: Global) -> Result<Elements, Memory> {
+    let mut elements = Elements::new(alloc);
+    elements.push(Element::Const(2, Sort::Named(1)))?;
+    elements.push(Element::Number(Affine {
+        form: one_term(alloc, Atom::Int(3))?,
+        constant: 7,
+    }))?;
+    elements.push(Element::Diff(1, 2))?;
+    Ok(elements)
+}
+
+/// The size of a region as an atom.
+fn region(alloc: Global) -> Result<Atom, Memory> {
+    Ok(Atom::Size(Cube {
+        component: 1,
+        signs: Signs::from_slice(alloc, &[Sign::Plus, Sign::Minus])?,
+    }))
+}
+
+/// Minus five times the atom.
+fn one_term(alloc: Global, atom: Atom) -> Result<Form, Memory> {
+    let mut terms = Vec::new(alloc);
+    terms.push((-5, atom))?;
+    Ok(Form::from_terms(terms))
+}
+
+/// Whether copies of the formulas are equal to them.
+fn formulas_are_copied(formulas: &Formulas) -> Result<bool, Fail> {
+    for formula in formulas.as_slice() {
+        let copy = formula.clone()?;
+        if copy != *formula {
+            return Ok(false);
+        }
+    }
+    Ok(true)
+}
+
+/// Whether copies of the elements are equal to them.
+fn elements_are_copied(elements: &Elements) -> Result<bool, Fail> {
+    for element in elements.as_slice() {
+        let copy = element.clone()?;
+        if copy != *element {
+            return Ok(false);
+        }
+    }
+    Ok(true)
 }
 
 #[test]
-fn copy_of_a_region_is_equal(rt: HostRuntime) -> Result<(), Fail> {
-    let cube = Cube {
-        component: 1,
-        signs: Signs::from_slice(rt.alloc(), &[Sign::Plus, Sign::Minus])?,
-    };
-    assert!(rt; is_copied(&cube)?);
+fn copies_are_equal(rt: HostRuntime) -> Result<(), Fail> {
+    let formulas = some_formulas(rt.alloc())?;
+    assert!(rt; formulas_are_copied(&formulas)?);
+    let elements = some_elements(rt.alloc())?;
+    assert!(rt; elements_are_copied(&elements)?);
+    Ok(())
+}
+
+/// Each node is found by its number, and by its kind's call.
+fn check_bank(rt: &impl Abort, bank: &Bank, flag: u32, element: u32, single: u32) -> bool
+    requires flag { IsFormulaOf bank.now flag }
+    requires element { IsElementOf bank.now element }
+    requires single { IsSetOf bank.now single }
+{
+    assert!(rt; matches!(bank.formula_at(flag), Formula::Flag(4)));
+    assert!(rt; matches!(bank.element_at(element), Element::Const(2, _)));
+    matches!(bank.set_at(single), SetTerm::Single(2))
+}
+
+#[test]
+fn equal_nodes_have_one_number(rt: HostRuntime) -> Result<(), Fail> {
+    let mut bank = Bank::new(rt.alloc());
+    let flag = bank.formula(Formula::Flag(4))?;
+    let element = bank.element(Element::Const(2, Sort::Named(1)))?;
+    let single = bank.set(SetTerm::Single(element))?;
+    assert!(rt; (flag, element, single) == (1, 2, 3));
+    let again = bank.formula(Formula::Flag(4))?;
+    assert!(rt; again == flag);
+    assert!(rt; check_bank(&rt, &bank, flag, element, single));
+    Ok(())
+}
+
+/// Puts as many Bool constants as the bank may hold.
+fn fill(bank: &mut Bank) -> Result<(), BankError> {
+    for constant in 1..=LIMIT as u32 {
+        bank.formula(Formula::Flag(constant))?;
+    }
+    Ok(())
+}
+
+#[test]
+fn full_bank_takes_old_nodes_alone(rt: HostRuntime) -> Result<(), Fail> {
+    let mut bank = Bank::new(rt.alloc());
+    fill(&mut bank)?;
+    assert!(rt; bank.len() == LIMIT);
+    assert!(rt; matches!(bank.node_at(200_000), Node::Formula(Formula::Flag(200_000))));
+    assert!(rt; matches!(bank.formula(Formula::Flag(7)), Ok(7)));
+    assert!(rt; matches!(bank.formula(Formula::True), Err(BankError::Full)));
     Ok(())
 }
