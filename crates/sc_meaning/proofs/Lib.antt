@@ -1,0 +1,12 @@
+pub mod Falsity
+pub mod Marking
+pub mod Match
+pub mod Parts
+pub mod Passing
+pub mod Plain
+pub mod Reach
+pub mod Sets
+pub mod Sums
+pub mod Tops
+pub mod Turns
+pub mod Whole
