@@ -1,0 +1,11 @@
+mod Shaped
+mod Growing
+mod Loops
+mod Arguments
+mod Terms
+mod Standing
+mod OperatorLaws
+mod Worths
+mod DeclaredSorts
+mod KnownSorts
+mod Booleans

@@ -1,0 +1,9 @@
+pub mod Words
+pub mod States
+pub mod Growth
+pub mod Builds
+pub mod Heads
+pub mod Elab
+pub mod Sorts
+pub mod Value
+pub mod Boolean

@@ -1,0 +1,53 @@
+//! Laws of elaboration.
+
+ghost use Rattle.std.specs.Prelude.{◌≡◌, ℕ, List, Ok};
+ghost use Rattle.sc_sexpr.specs.Shapes.{Shape};
+ghost use Rattle.sc_terms.specs.declared.nodes.Node.{Node};
+ghost use Rattle.sc_terms.specs.declared.nodes.Sort.{Sort};
+ghost use Rattle.sc_terms.specs.Bank.{IsBank, Begins, IsFormulaOf, HasSorts};
+ghost use Rattle.sc_terms.specs.BankValues.{bank_meaning};
+ghost use Rattle.sc_terms.specs.Meaning.{Interpretation, IsInterpretation};
+ghost use Rattle.sc_stack.specs.declared.stack.Constant.{Constant};
+ghost use Rattle.sc_stack.specs.Names.{Names, IsSort, sorts_of, with_sort, with_constant};
+ghost use Rattle.sc_elab.specs.States.{State, Done};
+ghost use Rattle.sc_elab.specs.Elab.{core};
+ghost use Rattle.sc_elab.specs.Sorts.{sort_of};
+ghost use Rattle.sc_elab.specs.Value.{Truth, truth, term_value};
+
+use sc_stack::names_have_numbers;
+use sc_terms::{bank_grows, bank_meanings_fit, bank_with_node, meanings_stay};
+
+/// A term's core formula keeps its meaning: under every interpretation the term is worth the truth value that the bank gives the formula.
+pub fn elaboration_keeps_meaning()
+    ensures value { (t : Shape) (s : State) (n : ℕ) (bank : List Node) → IsBank s.bank → core t s ≡ Done n bank → (i : Interpretation) → IsInterpretation i → term_value s.names i t ≡ Truth ((bank_meaning bank i).truth n) }
+    ensures truth { (t : Shape) (s : State) (n : ℕ) (bank : List Node) → IsBank s.bank → core t s ≡ Done n bank → (i : Interpretation) → IsInterpretation i → (bank_meaning bank i).truth n ≡ truth (term_value s.names i t) }
+{
+    bank_meanings_fit();
+    meanings_stay();
+    bank_with_node();
+    bank_grows();
+}
+
+/// Elaboration adds nodes at the end of the bank: the formula found is one of the new bank, and the formulas of the old one mean what they meant.
+pub fn elaboration_grows_bank()
+    ensures bank { (t : Shape) (s : State) (n : ℕ) (bank : List Node) → IsBank s.bank → core t s ≡ Done n bank → IsBank bank × Begins s.bank bank × IsFormulaOf bank n }
+    ensures stays { (t : Shape) (s : State) (n : ℕ) (bank : List Node) → IsBank s.bank → core t s ≡ Done n bank → (i : Interpretation) → IsInterpretation i → (m : ℕ) → IsFormulaOf s.bank m → (bank_meaning bank i).truth m ≡ (bank_meaning s.bank i).truth m }
+{
+    bank_meanings_fit();
+    meanings_stay();
+    bank_with_node();
+    bank_grows();
+}
+
+/// A sort that is read is built in, or made of a sort that was declared, so that constants of it may be.
+pub fn read_sorts_are_declared()
+    ensures { (names : Names) (t : Shape) (sort : Sort) → sort_of names t ≡ Ok sort → IsSort names sort }
+{
+    names_have_numbers();
+}
+
+/// The constants of a bank keep their sorts as more is declared.
+pub fn declarations_keep_sorts()
+    ensures sort { (names : Names) (name : List ℕ) (bank : List Node) → HasSorts (sorts_of names) bank → HasSorts (sorts_of (with_sort names name)) bank }
+    ensures constant { (names : Names) (constant : Constant) (bank : List Node) → HasSorts (sorts_of names) bank → HasSorts (sorts_of (with_constant names constant)) bank }
+{}

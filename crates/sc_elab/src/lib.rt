@@ -1,0 +1,25 @@
+//! From the terms and sorts of SMT-LIB 2.6 scripts to core formulas in the bank, and to sorts.
+#![tactic(auto)]
+
+mod apply;
+mod boolean;
+mod build;
+mod elab;
+mod error;
+mod heads;
+mod laws;
+mod meant;
+mod sorts;
+mod words;
+
+pub use boolean::elaboration_stays_boolean;
+pub use elab::elaborate;
+pub use error::ElabError;
+pub use laws::{
+    declarations_keep_sorts, elaboration_grows_bank, elaboration_keeps_meaning,
+    read_sorts_are_declared,
+};
+pub use sorts::read_sort;
+
+#[cfg(test)]
+mod tests;
