@@ -1,0 +1,33 @@
+//! Laws of the stock.
+
+ghost use Rattle.sc_flatten.specs.Laws.{StocksAreProblems, MeaningsAgree, SortsStay, LeastsAreOfClasses, ComponentsAscend};
+
+use sc_terms::{bank_meanings_fit, meanings_fit};
+
+/// The stock of a bank's formulas is a problem: its numbers name what is there, nothing is a part of itself, and each set term but the empty sets has its component.
+pub fn stocks_are_problems()
+    ensures { StocksAreProblems }
+{}
+
+/// Under each interpretation of the constants a root of the stock is true exactly where its assertion is true in the bank.
+pub fn meanings_agree()
+    ensures { MeaningsAgree }
+{
+    meanings_fit();
+    bank_meanings_fit();
+}
+
+/// The constants that the stock names have the sorts that they have in the bank.
+pub fn sorts_stay()
+    ensures { SortsStay }
+{}
+
+/// Two set terms have one component exactly where they are linked, directly or over others, by arguments and equations: the numbers of components' least set terms are the least of the classes of the smallest equivalence that holds the links.
+pub fn leasts_are_of_classes()
+    ensures { LeastsAreOfClasses }
+{}
+
+/// Components come in the order of their least set terms, and each has its set terms in order: the n-th component is the class of the n-th set term, empty sets aside, that is the least of its class.
+pub fn components_ascend()
+    ensures { ComponentsAscend }
+{}
