@@ -4,3 +4,5 @@ pub mod Counting
 pub mod Spellings
 pub mod Nested
 pub mod Checked
+pub mod Taking
+pub mod Judged

@@ -1,9 +1,11 @@
 -- A closed tree refutes the facts on which it begins.
-use Rattle.std.proofs.Common.{◌≡◌, ℕ, true, false, ◌&&◌, List, [], ◌∷◌, ◌++◌, ◌⊎◌, inl, inr, sym, subst, ◌∙◌}
+use Rattle.std.proofs.Common.{◌≡◌, ℕ, Bool, true, false, ◌&&◌, List, [], ◌∷◌, ◌++◌, Option, Some, None, ◌⊎◌, inl, inr, refl, sym, subst, ◌∙◌}
+use Rattle.std.specs.Prelude.{if◌then◌else◌}
+use Rattle.std.specs.List.{AllByRecursion}
 use Rattle.std.proofs.lemmas.Bool.{false≢true}
 use Rattle.sc_terms.specs.declared.problem.Parts.{Parts}
-use Rattle.sc_terms.specs.Meaning.{Interpretation, Valuation, Fits, AllTrue}
-use Rattle.sc_terms.specs.Values.{meaning, IsUnsatisfiable}
+use Rattle.sc_terms.specs.Meaning.{Interpretation, IsInterpretation, Valuation, Fits, AllTrue}
+use Rattle.sc_terms.specs.Values.{meaning, Holds, IsUnsatisfiable}
 use Rattle.sc_terms.specs.Conditions.{IsProblem, MeaningsFit}
 use Rattle.sc_facts.specs.declared.fact.Fact.{Fact}
 use Rattle.sc_facts.specs.declared.name.FactName.{FactName}
@@ -12,9 +14,15 @@ use Rattle.sc_facts.specs.Facts.{has, named, FactHolds, Hold, OneHolds, root_fac
 use Rattle.sc_facts.specs.Same.{same_fact, same_fact-Decides}
 use Rattle.sc_base.proofs.Bools.{and_true, or_true}
 use Rattle.sc_rules.specs.Steps.{StepsAreSound}
+use Rattle.sc_deriv.specs.declared.derivation.Step.{Step}
+use Rattle.sc_deriv.specs.declared.derivation.Step.TheVariants.{Plain}
+use Rattle.sc_deriv.specs.declared.derivation.Closing.{Closing}
+use Rattle.sc_deriv.specs.declared.derivation.Closing.TheVariants.{Clash}
+use Rattle.sc_deriv.specs.declared.derivation.Reason.{Reason}
+use Rattle.sc_deriv.specs.declared.derivation.Reason.TheVariants.{Q2}
 use Rattle.sc_deriv.specs.declared.derivation.Node.{Node}
-use Rattle.sc_deriv.specs.Acceptance.{is_ordered, clashes, Closed, closing, one, two}
-use Rattle.sc_deriv.specs.Laws.{ClosedTreesRefute, LemmasRefute, LemmasFollow}
+use Rattle.sc_deriv.specs.Acceptance.{is_ordered, clashes, step_branches, closing_fault, Closed, closing, one, two}
+use Rattle.sc_deriv.specs.Laws.{NoneHolds, Follows, ClosedTreesRefute, LemmasRefute, LemmasFollow}
 
 module _ (problem : Parts) (v : Valuation) where
   -- a fact that stands on a path of true facts is true
@@ -47,6 +55,14 @@ module _ (problem : Parts) (v : Valuation) where
       let both = and_true (has path (named name true)) (has path (named name false)) signs.1 in
       opposite name (has-holds path (named name true) h both.0) (has-holds path (named name false) h both.1)
 
+  no-fault : (b : Bool) → ◌≡◌ {A = Option Reason} (if b then None else Some Q2) None → b ≡ true
+  no-fault true e = refl
+  no-fault false e = absurd cc
+
+  -- a closing that holds refutes the path on which it stands
+  closing-refutes : (lists : List (List Fact)) → NoneHolds problem v lists → (path : List Fact) (c : Closing) → closing_fault lists path c ≡ None → Hold problem v path → ⊥
+  closing-refutes lists none path (Clash name) e h = clash-refutes path name (no-fault (clashes path name) e) h
+
   one-of-two : (left right : List Fact) → OneHolds problem v (left ∷ right ∷ []) → Hold problem v left ⊎ Hold problem v right
   one-of-two left right h =
       elim h [ inl a ↦ inl a | inr others ↦ elim others [ inl b ↦ inr b | inr none ↦ absurd none ] ]
@@ -54,31 +70,39 @@ module _ (problem : Parts) (v : Valuation) where
   one-of-one : (branch : List Fact) → OneHolds problem v (branch ∷ []) → Hold problem v branch
   one-of-one branch h = elim h [ inl a ↦ a | inr none ↦ absurd none ]
 
-module _ (sound : StepsAreSound) (problem : Parts) (i : Interpretation) (v : Valuation) (fits : Fits problem i v) where
-  closed-refutes : (path : List Fact) (nodes : List Node) → Closed problem path nodes → Hold problem v path → ⊥
-  closed-refutes path nodes (closing _ name e) h = clash-refutes problem v path name e h
+module _ (sound : StepsAreSound) (problem : Parts) (i : Interpretation) (v : Valuation) (fits : Fits problem i v) (lists : List (List Fact)) (none : NoneHolds problem v lists) where
+  step-sound : (path : List Fact) (step : Step) (bs : List (List Fact)) → step_branches problem path step ≡ Some bs → Hold problem v path → OneHolds problem v bs
+  step-sound path (Plain step) bs e h = sound problem i v fits path step bs e h
+
+  closed-refutes : (path : List Fact) (nodes : List Node) → Closed problem lists path nodes → Hold problem v path → ⊥
+  closed-refutes path nodes (closing _ c e) h = closing-refutes problem v lists none path c e h
   closed-refutes path nodes (one _ branch step rest e below) h =
-      let held = one-of-one problem v branch (sound problem i v fits path step (branch ∷ []) e h) in
+      let held = one-of-one problem v branch (step-sound path step (branch ∷ []) e h) in
       closed-refutes (path ++ branch) rest below (hold-append problem v path branch h held)
   closed-refutes path nodes (two _ left right step first second e l r) h =
-      elim (one-of-two problem v left right (sound problem i v fits path step (left ∷ right ∷ []) e h)) [
+      elim (one-of-two problem v left right (step-sound path step (left ∷ right ∷ []) e h)) [
         | inl held ↦ closed-refutes (path ++ left) first l (hold-append problem v path left h held)
         | inr held ↦ closed-refutes (path ++ right) second r (hold-append problem v path right h held)
       ]
 
 pub closed_trees_refute : StepsAreSound → ClosedTreesRefute
-closed_trees_refute sound problem i v fits path nodes closed h = closed-refutes sound problem i v fits path nodes closed h
+closed_trees_refute sound problem i v fits lists none path nodes closed h = closed-refutes sound problem i v fits lists none path nodes closed h
 
 pub lemmas_refute : ClosedTreesRefute → LemmasRefute
-lemmas_refute refute problem hypotheses nodes closed i v fits roots h =
-    refute problem i v fits (root_facts problem.roots ++ hypotheses) nodes closed
+lemmas_refute refute problem lists hypotheses nodes closed i v fits none roots h =
+    refute problem i v fits lists none (root_facts problem.roots ++ hypotheses) nodes closed
     (hold-append problem v (root_facts problem.roots) hypotheses (roots-hold problem v problem.roots roots) h)
 
-pub lemmas_follow : ClosedTreesRefute → MeaningsFit → LemmasFollow
-lemmas_follow refute fit problem is_problem hypotheses nodes closed i proper roots h =
-    lemmas_refute refute problem hypotheses nodes closed i (meaning problem i) (fit problem is_problem i proper) roots h
+-- hypotheses of lemmas that follow are not true where the roots are
+none-hold : (problem : Parts) (i : Interpretation) → IsInterpretation i → Holds problem i → (lists : List (List Fact)) → AllByRecursion (Follows problem) lists → NoneHolds problem (meaning problem i) lists
+none-hold problem i proper roots [] follow = tt
+none-hold problem i proper roots (list ∷ lists) follow = (follow.0 i proper roots, none-hold problem i proper roots lists follow.1)
 
--- the roots alone
-pub unsatisfiable : ClosedTreesRefute → MeaningsFit → (problem : Parts) → IsProblem problem → (nodes : List Node) → Closed problem (root_facts problem.roots) nodes → IsUnsatisfiable problem
+pub lemmas_follow : ClosedTreesRefute → MeaningsFit → LemmasFollow
+lemmas_follow refute fit problem is_problem lists follow hypotheses nodes closed i proper roots h =
+    lemmas_refute refute problem lists hypotheses nodes closed i (meaning problem i) (fit problem is_problem i proper) (none-hold problem i proper roots lists follow) roots h
+
+-- the roots alone, over no lemma
+pub unsatisfiable : ClosedTreesRefute → MeaningsFit → (problem : Parts) → IsProblem problem → (nodes : List Node) → Closed problem [] (root_facts problem.roots) nodes → IsUnsatisfiable problem
 unsatisfiable refute fit problem is_problem nodes closed i proper roots =
-    refute problem i (meaning problem i) (fit problem is_problem i proper) (root_facts problem.roots) nodes closed (roots-hold problem (meaning problem i) problem.roots roots)
+    refute problem i (meaning problem i) (fit problem is_problem i proper) [] tt (root_facts problem.roots) nodes closed (roots-hold problem (meaning problem i) problem.roots roots)

@@ -3,3 +3,5 @@ pub mod Acceptance
 pub mod Judging
 pub mod OpenPaths
 pub mod Laws
+pub mod Same
+pub mod Taking

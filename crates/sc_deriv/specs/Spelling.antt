@@ -7,6 +7,7 @@ use Rattle.sc_facts.specs.declared.name.FactName.{FactName}
 use Rattle.sc_facts.specs.declared.name.FactName.TheVariants as names
 use Rattle.sc_rules.specs.declared.step.PlainStep.{PlainStep}
 use Rattle.sc_rules.specs.declared.step.PlainStep.TheVariants as plain
+use Rattle.sc_deriv.specs.declared.derivation.Step.{Step}
 use Rattle.sc_deriv.specs.declared.derivation.Step.TheVariants as steps
 use Rattle.sc_deriv.specs.declared.derivation.Closing.TheVariants.{Clash}
 use Rattle.sc_deriv.specs.declared.derivation.Node.{Node}
@@ -19,9 +20,12 @@ abbrev pub plain_count : PlainStep → ℕ
 plain_count (plain.Cut name) = 2
 plain_count _ = 1
 
+abbrev pub step_count : Step → ℕ
+step_count (steps.Plain step) = plain_count step
+
 -- how many branches go on after a node
 abbrev pub branch_count : Node → ℕ
-branch_count (nodes.Step (steps.Plain step)) = plain_count step
+branch_count (nodes.Step step) = step_count step
 branch_count (nodes.Closing closing) = 0
 
 -- the nodes are one whole tree in preorder

@@ -3,6 +3,7 @@
 use sc_facts::{FactName, Facts};
 use sc_rules::PlainStep;
 use sc_terms::Sequence;
+use std::alloc::AllocError;
 
 /// A step of a tree: it goes on with each of its branches.
 #[derive(Drop)]
@@ -10,6 +11,18 @@ pub enum Step {
     /// A step that needs no region tree.
     Plain(PlainStep),
 }
+
+/// A step of a path, with the branch that was taken.
+#[derive(Drop)]
+pub struct Taken {
+    /// The step.
+    pub step: Step,
+    /// The branch's number, 1 or 2.
+    pub branch: u32,
+}
+
+/// The steps that lead to a path, in their order from the root path on.
+pub type Steps = Sequence<Taken>;
 
 /// What ends a branch.
 #[derive(Drop)]
@@ -43,7 +56,7 @@ pub type Lemmas = Sequence<Lemma>;
 /// Lemmas, and a tree that begins on the path of the roots.
 #[derive(Drop)]
 pub struct Derivation {
-    /// None as yet, since no closing names one.
+    /// The lemmas, each proved from those before it. A derivation that can be written down has none, since no closing names one.
     pub lemmas: Lemmas,
     /// The tree.
     pub nodes: Nodes,
@@ -82,4 +95,210 @@ pub enum Judgement {
     Accepted,
     /// The first node that fails, counted from 1 in preorder, and why.
     Refused { node: u64, reason: Reason },
+}
+
+impl PartialEq for Step {
+    ghost use Rattle.std.specs.Cmp.{partial_equiv_from_equiv, decided};
+    ghost use Rattle.sc_deriv.specs.Same.{same_step, same_step-Decides};
+
+    ghost eq = { same_step };
+
+    ghost laws = { partial_equiv_from_equiv (decided same_step same_step-Decides) };
+
+    fn eq(&self, other: &Step) -> bool {
+        let (Step::Plain(a), Step::Plain(b)) = (self, other);
+        a == b
+    }
+}
+
+impl Eq for Step {
+    ghost use Rattle.std.specs.Cmp.{decided};
+    ghost use Rattle.sc_deriv.specs.Same.{same_step, same_step-Decides};
+
+    ghost laws = { decided same_step same_step-Decides };
+}
+
+/// A copy is equal.
+impl Clone for Step {
+    ghost use Rattle.std.specs.Prelude.{◌≡◌};
+
+    ghost is_clone = { λ a b. b ≡ a };
+
+    fn clone(&self) -> Result<Step, AllocError> {
+        let Step::Plain(step) = self;
+        Ok(Step::Plain(step.clone()?))
+    }
+}
+
+impl PartialEq for Taken {
+    ghost use Rattle.std.specs.Cmp.{partial_equiv_from_equiv, decided};
+    ghost use Rattle.sc_deriv.specs.Same.{same_taken, same_taken-Decides};
+
+    ghost eq = { same_taken };
+
+    ghost laws = { partial_equiv_from_equiv (decided same_taken same_taken-Decides) };
+
+    fn eq(&self, other: &Taken) -> bool {
+        self.step == other.step && self.branch == other.branch
+    }
+}
+
+impl Eq for Taken {
+    ghost use Rattle.std.specs.Cmp.{decided};
+    ghost use Rattle.sc_deriv.specs.Same.{same_taken, same_taken-Decides};
+
+    ghost laws = { decided same_taken same_taken-Decides };
+}
+
+/// A copy is equal.
+impl Clone for Taken {
+    ghost use Rattle.std.specs.Prelude.{◌≡◌};
+
+    ghost is_clone = { λ a b. b ≡ a };
+
+    fn clone(&self) -> Result<Taken, AllocError> {
+        Ok(Taken {
+            step: self.step.clone()?,
+            branch: self.branch,
+        })
+    }
+}
+
+impl PartialEq for Closing {
+    ghost use Rattle.std.specs.Cmp.{partial_equiv_from_equiv, decided};
+    ghost use Rattle.sc_deriv.specs.Same.{same_closing, same_closing-Decides};
+
+    ghost eq = { same_closing };
+
+    ghost laws = { partial_equiv_from_equiv (decided same_closing same_closing-Decides) };
+
+    fn eq(&self, other: &Closing) -> bool {
+        let (Closing::Clash(a), Closing::Clash(b)) = (self, other);
+        a == b
+    }
+}
+
+impl Eq for Closing {
+    ghost use Rattle.std.specs.Cmp.{decided};
+    ghost use Rattle.sc_deriv.specs.Same.{same_closing, same_closing-Decides};
+
+    ghost laws = { decided same_closing same_closing-Decides };
+}
+
+/// A copy is equal.
+impl Clone for Closing {
+    ghost use Rattle.std.specs.Prelude.{◌≡◌};
+
+    ghost is_clone = { λ a b. b ≡ a };
+
+    fn clone(&self) -> Result<Closing, AllocError> {
+        let Closing::Clash(name) = self;
+        Ok(Closing::Clash(name.clone()?))
+    }
+}
+
+impl PartialEq for Node {
+    ghost use Rattle.std.specs.Cmp.{partial_equiv_from_equiv, decided};
+    ghost use Rattle.sc_deriv.specs.Same.{same_node, same_node-Decides};
+
+    ghost eq = { same_node };
+
+    ghost laws = { partial_equiv_from_equiv (decided same_node same_node-Decides) };
+
+    fn eq(&self, other: &Node) -> bool {
+        match (self, other) {
+            (Node::Step(a), Node::Step(b)) => a == b,
+            (Node::Closing(a), Node::Closing(b)) => a == b,
+            _ => false,
+        }
+    }
+}
+
+impl Eq for Node {
+    ghost use Rattle.std.specs.Cmp.{decided};
+    ghost use Rattle.sc_deriv.specs.Same.{same_node, same_node-Decides};
+
+    ghost laws = { decided same_node same_node-Decides };
+}
+
+/// A copy is equal.
+impl Clone for Node {
+    ghost use Rattle.std.specs.Prelude.{◌≡◌};
+
+    ghost is_clone = { λ a b. b ≡ a };
+
+    fn clone(&self) -> Result<Node, AllocError> {
+        match self {
+            Node::Step(step) => Ok(Node::Step(step.clone()?)),
+            Node::Closing(closing) => Ok(Node::Closing(closing.clone()?)),
+        }
+    }
+}
+
+impl PartialEq for Lemma {
+    ghost use Rattle.std.specs.Cmp.{partial_equiv_from_equiv, decided};
+    ghost use Rattle.sc_deriv.specs.Same.{same_lemma, same_lemma-Decides};
+
+    ghost eq = { same_lemma };
+
+    ghost laws = { partial_equiv_from_equiv (decided same_lemma same_lemma-Decides) };
+
+    fn eq(&self, other: &Lemma) -> bool {
+        self.hypotheses == other.hypotheses && self.nodes == other.nodes
+    }
+}
+
+impl Eq for Lemma {
+    ghost use Rattle.std.specs.Cmp.{decided};
+    ghost use Rattle.sc_deriv.specs.Same.{same_lemma, same_lemma-Decides};
+
+    ghost laws = { decided same_lemma same_lemma-Decides };
+}
+
+/// A copy is equal.
+impl Clone for Lemma {
+    ghost use Rattle.std.specs.Prelude.{◌≡◌};
+
+    ghost is_clone = { λ a b. b ≡ a };
+
+    fn clone(&self) -> Result<Lemma, AllocError> {
+        Ok(Lemma {
+            hypotheses: self.hypotheses.clone()?,
+            nodes: self.nodes.clone()?,
+        })
+    }
+}
+
+impl PartialEq for Derivation {
+    ghost use Rattle.std.specs.Cmp.{partial_equiv_from_equiv, decided};
+    ghost use Rattle.sc_deriv.specs.Same.{same_derivation, same_derivation-Decides};
+
+    ghost eq = { same_derivation };
+
+    ghost laws = { partial_equiv_from_equiv (decided same_derivation same_derivation-Decides) };
+
+    fn eq(&self, other: &Derivation) -> bool {
+        self.lemmas == other.lemmas && self.nodes == other.nodes
+    }
+}
+
+impl Eq for Derivation {
+    ghost use Rattle.std.specs.Cmp.{decided};
+    ghost use Rattle.sc_deriv.specs.Same.{same_derivation, same_derivation-Decides};
+
+    ghost laws = { decided same_derivation same_derivation-Decides };
+}
+
+/// A copy is equal.
+impl Clone for Derivation {
+    ghost use Rattle.std.specs.Prelude.{◌≡◌};
+
+    ghost is_clone = { λ a b. b ≡ a };
+
+    fn clone(&self) -> Result<Derivation, AllocError> {
+        Ok(Derivation {
+            lemmas: self.lemmas.clone()?,
+            nodes: self.nodes.clone()?,
+        })
+    }
 }

@@ -12,9 +12,14 @@ mod stack;
 mod tests;
 mod walk;
 
-pub use checker::check;
-pub use derivation::{Closing, Derivation, Judgement, Lemma, Lemmas, Node, Nodes, Reason, Step};
-pub use laws::{accepts_closed_trees, closed_trees_refute, lemmas_follow, refuses_first_failure};
+pub use checker::{check, clashes, closing_fault, step_branches};
+pub use derivation::{
+    Closing, Derivation, Judgement, Lemma, Lemmas, Node, Nodes, Reason, Step, Steps, Taken,
+};
+pub use laws::{
+    accepts_closed_trees, closed_trees_refute, lemmas_follow, refuses_first_failure, steps_add,
+    steps_lead_on,
+};
 pub use sc_facts::{Fact, FactName, Facts};
 pub use sc_rules::PlainStep;
 pub use spelling::is_spelt;

@@ -67,7 +67,7 @@ fn judged(alloc: Global, problem: &Problem, nodes: Vec<Node>) -> Result<Option<J
     if !is_spelt(&derivation) {
         return Ok(None);
     }
-    Ok(Some(check(alloc, problem, &derivation)?))
+    Ok(Some(check(alloc, problem, &derivation.clone()?)?))
 }
 
 fn check_trees(rt: &impl Abort, alloc: Global, problem: &Problem) -> Result<(), Fail> {

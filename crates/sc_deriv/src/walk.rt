@@ -6,7 +6,7 @@ ghost use Rattle.sc_deriv.specs.Judging.{grown};
 ghost use Rattle.sc_deriv.specs.OpenPaths.{first_path, other_paths};
 
 use crate::stack::Stack;
-use sc_facts::{Fact, Facts, Path};
+use sc_facts::{Facts, Path};
 use sc_rules::Branches;
 use sc_terms::Memory;
 use std::alloc::Global;
@@ -30,13 +30,14 @@ pub struct Walk {
 impl Model for Walk {
     ghost use Rattle.std.specs.Prelude.{List, length};
     ghost use Rattle.sc_facts.specs.declared.fact.Fact.{Fact};
+    ghost use Rattle.sc_facts.specs.Paths.{root_count};
     ghost use Rattle.sc_deriv.specs.OpenPaths.{open_paths, IsNested};
 
     ghost Value = { List (List Fact) };
 
     ghost view = { λ w. open_paths w.going w.path.facts w.waiting };
 
-    ghost invariant = { λ w. IsNested w.path.root_count (length w.path.facts) w.waiting };
+    ghost invariant = { λ w. IsNested (root_count w.path) (length w.path.facts) w.waiting };
 }
 
 impl Walk {
@@ -72,20 +73,20 @@ impl Walk {
         ensures { OnOk result (self.new ≡ grown (first_path self.old) (lists_of branches) ++ other_paths self.old) }
     {
         match branches {
-            Branches::One(facts) => self.extend(facts.as_slice()),
+            Branches::One(facts) => self.append(facts),
             Branches::Two(first, second) => {
                 self.wait(second)?;
-                self.extend(first.as_slice())
+                self.append(first)
             }
         }
     }
 
     /// The current branch goes on with more facts.
-    fn extend(&mut self, facts: &[Fact]) -> Result<(), Memory>
+    fn append(&mut self, facts: Facts) -> Result<(), Memory>
         requires { self.old ≢ [] }
-        ensures { OnOk result (self.new ≡ (first_path self.old ++ facts.now) ∷ other_paths self.old) }
+        ensures { OnOk result (self.new ≡ (first_path self.old ++ facts) ∷ other_paths self.old) }
     {
-        self.path.extend(facts)
+        self.path.append(facts)
     }
 
     /// A branch that goes on from here with more facts is to be taken next after the current one.
@@ -105,7 +106,7 @@ impl Walk {
         match self.waiting.pop() {
             Some(turn) => {
                 self.path.cut_back(turn.count);
-                self.path.extend(turn.facts.as_slice())
+                self.path.append(turn.facts)
             }
             None => {
                 self.going = false;

@@ -1,80 +1,214 @@
 -- The look-up tables of a path: what they hold once a fact is added or facts are cut off, and what a look-up in them finds.
-use Rattle.std.proofs.Common.{◌≡◌, ℕ, zero, suc, ◌+◌, ◌-◌, nat_eq, ◌≤◌, ◌<◌, Bool, true, false, ◌||◌, cond, List, [], ◌∷◌, ◌++◌, length, take, drop, Option, Some, None, is_some, ◌⊎◌, inl, inr, refl, sym, ap, subst, ◌∙◌, arith}
-use Rattle.std.specs.Prelude.{slice_get}
+use Rattle.std.proofs.Common.{◌≡◌, ℕ, zero, suc, ◌+◌, ◌-◌, nat_eq, ◌≤◌, ◌<◌, Bool, true, false, ◌&&◌, List, [], ◌∷◌, ◌++◌, length, take, drop, Option, Some, None, is_some, ◌⊎◌, inl, inr, refl, sym, ap, subst, ◌∙◌, arith}
+use Rattle.std.specs.Prelude.{slice_get, min, if◌then◌else◌}
+use Rattle.std.specs.Bool.{Decides}
 use Rattle.std.specs.List.{list_any, position_from}
 use Rattle.std.specs.Map.{lookup}
 use Rattle.std.proofs.lemmas.Bool.{false≢true}
 use Rattle.std.proofs.lemmas.Iterator.Adapters.{position_from-zero}
-use Rattle.std.proofs.lemmas.List.{take-append-drop, take-append-le, length-append, length-take, length-take-le, append-nil}
-use Rattle.std.specs.Prelude.{min}
-use Rattle.sc_terms.specs.declared.form.Row.{Row as LinearRow}
-use Rattle.sc_facts.specs.declared.path.Before.{Before}
+use Rattle.std.proofs.lemmas.List.{take-append-drop, take-append-le, length-append, length-take, append-nil, length-map}
 use Rattle.std.proofs.Math.Seq.{take-append_seam, take-length}
 use Rattle.std.proofs.lemmas.Option.{slice_get_cases}
 use Rattle.indexmap.specs.IndexMap.{IndexMap, insert_entry}
 use Rattle.indexmap.proofs.CallerLemmas.{insert_entry-new}
 use Rattle.sc_base.specs.Numbered.{item_at}
 use Rattle.sc_base.specs.Options.{◌>>=◌}
+use Rattle.sc_terms.specs.declared.atoms.Cube.{Cube}
+use Rattle.sc_terms.specs.declared.form.Row.{Row as LinearRow}
+use Rattle.sc_terms.specs.Same.{same_cube, same_cube-Decides}
+use Rattle.sc_facts.specs.declared.places.Before.{Before}
 use Rattle.sc_facts.specs.declared.fact.Fact.{Fact}
-use Rattle.sc_facts.specs.declared.fact.Fact.TheVariants.{Row}
+use Rattle.sc_facts.specs.declared.fact.Fact.TheVariants.{Sign, Member, Eq, EqSet, Row, Empty}
 use Rattle.sc_facts.specs.Same.{same_fact, same_fact-Decides}
-use Rattle.sc_facts.specs.Facts.{has, first_place, row_in, rows_of}
-use Rattle.sc_facts.specs.Paths.{firsts_after, firsts, row_place, row_places_from, row_places, with_place, row_by, IsIndexed}
+use Rattle.sc_facts.specs.Facts.{has, first_place, row_in, rows_of, root_facts}
+use Rattle.sc_facts.specs.Paths.{with_first, firsts_from, plain_key, region_key, Places, places_of, with_place, front_of, place_in, row_place, row_places_from, row_places, row_by, counts_in, IsIndexed}
 
--- the facts in front of seen, the last one first
-turned : List Fact → List Fact → List Fact
-turned [] seen = seen
-turned (x ∷ xs) seen = turned xs (x ∷ seen)
-
-added : {X : Type 0} (b : Bool) (e : X) (xs ys zs : List X) → xs ≡ ys ++ zs → cond b xs (e ∷ xs) ≡ cond b ys (e ∷ ys) ++ zs
-added true e xs ys zs p = p
-added false e xs ys zs p = ap (λ l. e ∷ l) p
-
-firsts_after-append : (seen : List Fact) (n : ℕ) (xs ys : List Fact) → firsts_after seen n (xs ++ ys) ≡ firsts_after seen n xs ++ firsts_after (turned xs seen) (length xs + n) ys
-unfolding turned
-firsts_after-append seen n [] ys = let z : n ≡ 0 + n = omega arith in ap (λ k. firsts_after seen k ys) z
-firsts_after-append seen n (x ∷ xs) ys =
-    let e : length xs + suc n ≡ length (x ∷ xs) + n = omega arith in
-    added (has seen x) (x, n) _ _ _ (subst (λ k. firsts_after (x ∷ seen) (suc n) (xs ++ ys) ≡ firsts_after (x ∷ seen) (suc n) xs ++ firsts_after (turned xs (x ∷ seen)) k ys) e (firsts_after-append (x ∷ seen) (suc n) xs ys))
-
-or_turned : (a b c : Bool) → (b || (a || c)) ≡ ((a || b) || c)
-or_turned true true c = refl
-or_turned true false c = refl
-or_turned false true c = refl
-or_turned false false c = refl
-
-has-turned : (xs seen : List Fact) (f : Fact) → has (turned xs seen) f ≡ (has xs f || has seen f)
-unfolding turned
-has-turned [] seen f = refl
-has-turned (x ∷ xs) seen f = has-turned xs (x ∷ seen) f ∙ or_turned (same_fact f x) (has xs f) (has seen f)
-
-or_none : (b : Bool) → (b || false) ≡ b
-or_none true = refl
-or_none false = refl
+append-assoc : {X : Type 0} (a b c : List X) → a ++ (b ++ c) ≡ (a ++ b) ++ c
+append-assoc [] b c = refl
+append-assoc (x ∷ a) b c = ap (λ l. x ∷ l) (append-assoc a b c)
 
 true_or_false : (b : Bool) → (b ≡ true) ⊎ (b ≡ false)
 true_or_false true = inl refl
 true_or_false false = inr refl
 
--- a fact that was not seen is not equal to one that was
-unlike : (seen : List Fact) (f x : Fact) → has seen f ≡ false → has seen x ≡ true → same_fact f x ≡ false
-unlike seen f x none there =
-    elim (true_or_false (same_fact f x)) [
-      | inl e ↦ absurd (false≢true (sym none ∙ ap (has seen) ((same_fact-Decides f x).0 e) ∙ there))
-      | inr e ↦ e
-    ]
+-- where there is none, the other
+or_else : {X : Type 0} → Option X → Option X → Option X
+or_else None o = o
+or_else (Some x) o = Some x
 
--- a fact that was not seen is found at its first place
-lookup-firsts_after : (seen : List Fact) (n : ℕ) (xs : List Fact) (f : Fact) → has seen f ≡ false → lookup (same_fact f) (firsts_after seen n xs) ≡ position_from (same_fact f) n xs
-lookup-firsts_after seen n [] f none = refl
-lookup-firsts_after seen n (x ∷ xs) f none =
-    let k : suc n ≡ n + 1 = omega arith in
-    by (has seen x) refl (same_fact f x) refl (λ e. subst (λ m. lookup (same_fact f) (firsts_after (x ∷ seen) (suc n) xs) ≡ position_from (same_fact f) m xs) k (lookup-firsts_after (x ∷ seen) (suc n) xs f (rw (e, none))))
+or_else-none : {X : Type 0} (o : Option X) → or_else o None ≡ o
+unfolding or_else
+or_else-none None = refl
+or_else-none (Some x) = refl
+
+module _ {K : Type 0} (same : K → K → Bool) (decides : (a b : K) → Decides (same a b) (a ≡ b)) (key : Fact → Option K) where
+  table : List (K × ℕ) → ℕ → List Fact → List (K × ℕ)
+  table es n fs = firsts_from same key es n fs
+
+  -- the fact has this key
+  keyed : K → Option K → Bool
+  keyed k None = false
+  keyed k (Some j) = same k j
+
+  table-append : (es : List (K × ℕ)) (n : ℕ) (xs ys : List Fact) → firsts_from same key es n (xs ++ ys) ≡ firsts_from same key (firsts_from same key es n xs) (length xs + n) ys
+  table-append es n [] ys = let z : n ≡ 0 + n = omega arith in ap (λ k. firsts_from same key es k ys) z
+  table-append es n (x ∷ xs) ys =
+      let e : length xs + suc n ≡ length (x ∷ xs) + n = omega arith in
+      table-append (with_first same es (key x) n) (suc n) xs ys ∙ ap (λ k. firsts_from same key (firsts_from same key (with_first same es (key x) n) (suc n) xs) k ys) e
+
+  -- entries are added behind the others
+  one-more : (es : List (K × ℕ)) (o : Option K) (n : ℕ) → (more : List (K × ℕ)) × (with_first same es o n ≡ es ++ more)
+  one-more es None n = ([], sym (append-nil es))
+  one-more es (Some k) n = by (is_some (lookup (same k) es)) refl
+    where
+      by : (b : Bool) → is_some (lookup (same k) es) ≡ b → (more : List (K × ℕ)) × (with_first same es (Some k) n ≡ es ++ more)
+      by true e = ([], rw e (sym (append-nil es)))
+      by false e = ((k, n) ∷ [], rw e refl)
+
+  some-more : (es : List (K × ℕ)) (n : ℕ) (xs : List Fact) → (more : List (K × ℕ)) × (firsts_from same key es n xs ≡ es ++ more)
+  some-more es n [] = ([], sym (append-nil es))
+  some-more es n (x ∷ xs) =
+      let first = one-more es (key x) n in
+      let rest = some-more (with_first same es (key x) n) (suc n) xs in
+      (first.0 ++ rest.0, rest.1 ∙ ap (λ l. l ++ rest.0) first.1 ∙ sym (append-assoc es first.0 rest.0))
+
+  pub table-take : (n : ℕ) (facts : List Fact) → take (length (firsts_from same key [] 0 (take n facts))) (firsts_from same key [] 0 facts) ≡ firsts_from same key [] 0 (take n facts)
+  table-take n facts =
+      let front = firsts_from same key [] 0 (take n facts) in
+      let more = some-more front (length (take n facts) + 0) (drop n facts) in
+      let whole : firsts_from same key [] 0 facts ≡ front ++ more.0 =
+      ap (firsts_from same key [] 0) (sym (take-append-drop n facts)) ∙ table-append [] 0 (take n facts) (drop n facts) ∙ more.1 in
+      ap (take (length front)) whole ∙ take-append_seam front more.0
+
+  pub table-snoc : (facts : List Fact) (f : Fact) → firsts_from same key [] 0 (facts ++ f ∷ []) ≡ with_first same (firsts_from same key [] 0 facts) (key f) (length facts)
+  table-snoc facts f =
+      let n : length facts + 0 ≡ length facts = omega arith in
+      table-append [] 0 facts (f ∷ []) ∙ ap (λ k. with_first same (firsts_from same key [] 0 facts) (key f) k) n
+
+  lookup-append : (k : K) (es fs : List (K × ℕ)) → lookup (same k) (es ++ fs) ≡ or_else (lookup (same k) es) (lookup (same k) fs)
+  unfolding or_else
+  lookup-append k [] fs = refl
+  lookup-append k (e ∷ es) fs = by (same k e.0) refl (lookup-append k es fs)
+    where
+      by : (b : Bool) → same k e.0 ≡ b → lookup (same k) (es ++ fs) ≡ or_else (lookup (same k) es) (lookup (same k) fs) → lookup (same k) (e ∷ es ++ fs) ≡ or_else (lookup (same k) (e ∷ es)) (lookup (same k) fs)
+      by true h rest = rw h refl
+      by false h rest = rw h rest
+
+  -- where a key has no entry, its look-up finds the place that is noted for it
+  lookup-first : (k : K) (es : List (K × ℕ)) (o : Option K) (n : ℕ) → lookup (same k) (with_first same es o n) ≡ or_else (lookup (same k) es) (if keyed k o then Some n else None)
+  unfolding or_else keyed
+  lookup-first k es None n = sym (or_else-none (lookup (same k) es))
+  lookup-first k es (Some j) n = by (is_some (lookup (same j) es)) refl (same k j) refl
+    where
+      known : (o : Option ℕ) → is_some o ≡ true → o ≡ or_else o (Some n)
+      known None e = absurd (false≢true e)
+      known (Some x) e = refl
+
+      by : (b : Bool) → is_some (lookup (same j) es) ≡ b → (c : Bool) → same k j ≡ c → lookup (same k) (with_first same es (Some j) n) ≡ or_else (lookup (same k) es) (if same k j then Some n else None)
+      by true b true c =
+          let alike : k ≡ j = (decides k j).0 c in
+          rw (b, c) (known (lookup (same k) es) (ap (λ x. is_some (lookup (same x) es)) alike ∙ b))
+      by true b false c = rw (b, c) (sym (or_else-none (lookup (same k) es)))
+      by false b true c = rw (b, c) (lookup-append k es ((j, n) ∷ []) ∙ rw c refl)
+      by false b false c = rw (b, c) (lookup-append k es ((j, n) ∷ []) ∙ rw c refl)
+
+  or_else-assoc : (a b c : Option ℕ) → or_else (or_else a b) c ≡ or_else a (or_else b c)
+  unfolding or_else
+  or_else-assoc None b c = refl
+  or_else-assoc (Some x) b c = refl
+
+  lookup-table : (k : K) (es : List (K × ℕ)) (n : ℕ) (xs : List Fact) → lookup (same k) (firsts_from same key es n xs) ≡ or_else (lookup (same k) es) (position_from (λ f. keyed k (key f)) n xs)
+  unfolding or_else
+  lookup-table k es n [] = sym (or_else-none (lookup (same k) es))
+  lookup-table k es n (x ∷ xs) =
+      let m : suc n ≡ n + 1 = omega arith in
+      lookup-table k (with_first same es (key x) n) (suc n) xs
+      ∙ ap (λ (o : Option ℕ). or_else o (position_from (λ f. keyed k (key f)) (suc n) xs)) (lookup-first k es (key x) n)
+      ∙ or_else-assoc (lookup (same k) es) _ _
+      ∙ ap (or_else (lookup (same k) es)) (by (keyed k (key x)) refl m)
+    where
+      by : (b : Bool) → keyed k (key x) ≡ b → suc n ≡ n + 1 → or_else (if keyed k (key x) then Some n else None) (position_from (λ f. keyed k (key f)) (suc n) xs) ≡ position_from (λ f. keyed k (key f)) n (x ∷ xs)
+      by true h m = rw h refl
+      by false h m = rw h (ap (λ i. position_from (λ f. keyed k (key f)) i xs) m)
+
+position_from-same : (s t : Fact → Bool) → ((f : Fact) → s f ≡ t f) → (n : ℕ) (xs : List Fact) → position_from s n xs ≡ position_from t n xs
+position_from-same s t each n [] = refl
+position_from-same s t each n (x ∷ xs) =
+    ap (λ b. if b then Some n else position_from s (n + 1) xs) (each x) ∙ ap (λ o. if t x then Some n else o) (position_from-same s t each (n + 1) xs)
+
+-- the look-up of a fact that does not say whether a region is empty
+plain-found : (f : Fact) → ((x : Fact) → keyed same_fact same_fact-Decides plain_key f (plain_key x) ≡ same_fact f x) → (facts : List Fact) → lookup (same_fact f) (firsts_from same_fact plain_key [] 0 facts) ≡ first_place facts f
+unfolding or_else
+plain-found f alike facts =
+    lookup-table same_fact same_fact-Decides plain_key f [] 0 facts
+    ∙ position_from-same _ (same_fact f) alike 0 facts
+    ∙ sym (position_from-zero (same_fact f) facts)
+
+region-alike : (cube : Cube) (s : Bool) (x : Fact) → keyed same_cube same_cube-Decides (region_key s) cube (region_key s x) ≡ same_fact (Empty cube s) x
+unfolding keyed
+region-alike cube true (Empty c true) = by (same_cube cube c)
   where
-    by : (b : Bool) → has seen x ≡ b → (a : Bool) → same_fact f x ≡ a → (same_fact f x ≡ false → lookup (same_fact f) (firsts_after (x ∷ seen) (suc n) xs) ≡ position_from (same_fact f) (n + 1) xs) → lookup (same_fact f) (firsts_after seen n (x ∷ xs)) ≡ position_from (same_fact f) n (x ∷ xs)
-    by true there a e rest = let no = unlike seen f x none there in rw (there, no) (rest no)
-    by false away true e rest = rw (away, e)
-    by false away false e rest = rw (away, e) (rest e)
+    by : (b : Bool) → b ≡ (b && true)
+    by true = refl
+    by false = refl
+region-alike cube true (Empty c false) = by (same_cube cube c)
+  where
+    by : (b : Bool) → false ≡ (b && false)
+    by true = refl
+    by false = refl
+region-alike cube false (Empty c true) = by (same_cube cube c)
+  where
+    by : (b : Bool) → false ≡ (b && false)
+    by true = refl
+    by false = refl
+region-alike cube false (Empty c false) = by (same_cube cube c)
+  where
+    by : (b : Bool) → b ≡ (b && true)
+    by true = refl
+    by false = refl
+region-alike cube s (Sign f t) = refl
+region-alike cube s (Member e f t) = refl
+region-alike cube s (Eq e f t) = refl
+region-alike cube s (EqSet e f t) = refl
+region-alike cube s (Row row) = refl
+
+region-found : (cube : Cube) (s : Bool) (facts : List Fact) → lookup (same_cube cube) (firsts_from same_cube (region_key s) [] 0 facts) ≡ first_place facts (Empty cube s)
+unfolding or_else
+region-found cube s facts =
+    lookup-table same_cube same_cube-Decides (region_key s) cube [] 0 facts
+    ∙ position_from-same _ (same_fact (Empty cube s)) (region-alike cube s) 0 facts
+    ∙ sym (position_from-zero (same_fact (Empty cube s)) facts)
+
+-- the places of facts tell the first place of each fact
+pub place_in-places : (facts : List Fact) (f : Fact) → place_in (places_of facts) f ≡ first_place facts f
+unfolding keyed
+place_in-places facts (Empty cube true) = region-found cube true facts
+place_in-places facts (Empty cube false) = region-found cube false facts
+place_in-places facts (Sign f s) = plain-found (Sign f s) alike facts
+  where
+    alike : (x : Fact) → keyed same_fact same_fact-Decides plain_key (Sign f s) (plain_key x) ≡ same_fact (Sign f s) x
+    alike (Empty c b) = refl
+    alike _ = refl
+place_in-places facts (Member e t s) = plain-found (Member e t s) alike facts
+  where
+    alike : (x : Fact) → keyed same_fact same_fact-Decides plain_key (Member e t s) (plain_key x) ≡ same_fact (Member e t s) x
+    alike (Empty c b) = refl
+    alike _ = refl
+place_in-places facts (Eq e t s) = plain-found (Eq e t s) alike facts
+  where
+    alike : (x : Fact) → keyed same_fact same_fact-Decides plain_key (Eq e t s) (plain_key x) ≡ same_fact (Eq e t s) x
+    alike (Empty c b) = refl
+    alike _ = refl
+place_in-places facts (EqSet e t s) = plain-found (EqSet e t s) alike facts
+  where
+    alike : (x : Fact) → keyed same_fact same_fact-Decides plain_key (EqSet e t s) (plain_key x) ≡ same_fact (EqSet e t s) x
+    alike (Empty c b) = refl
+    alike _ = refl
+place_in-places facts (Row row) = plain-found (Row row) alike facts
+  where
+    alike : (x : Fact) → keyed same_fact same_fact-Decides plain_key (Row row) (plain_key x) ≡ same_fact (Row row) x
+    alike (Empty c b) = refl
+    alike _ = refl
 
 is_some-position_from : (t : Fact → Bool) (n : ℕ) (xs : List Fact) → is_some (position_from t n xs) ≡ list_any t xs
 is_some-position_from t n [] = refl
@@ -84,36 +218,22 @@ is_some-position_from t n (x ∷ xs) = by (t x) refl (is_some-position_from t (n
     by true e rest = rw e
     by false e rest = rw e rest
 
--- the first place of a fact, by look-up
-pub lookup-firsts : (facts : List Fact) (f : Fact) → lookup (same_fact f) (firsts facts) ≡ position_from (same_fact f) 0 facts
-lookup-firsts facts f = lookup-firsts_after [] 0 facts f refl
+-- the places of a longer list, and of a front
+places-snoc : (facts : List Fact) (f : Fact) → places_of (facts ++ f ∷ []) ≡ with_place (places_of facts) f (length facts)
+places-snoc facts f =
+    λ i. record {
+      plain = table-snoc same_fact same_fact-Decides plain_key facts f i;
+      empty = table-snoc same_cube same_cube-Decides (region_key true) facts f i;
+      filled = table-snoc same_cube same_cube-Decides (region_key false) facts f i;
+    }
 
-pub is_some-lookup-firsts : (facts : List Fact) (f : Fact) → is_some (lookup (same_fact f) (firsts facts)) ≡ has facts f
-is_some-lookup-firsts facts f = ap is_some (lookup-firsts facts f) ∙ is_some-position_from (same_fact f) 0 facts
-
--- the first places of a longer list begin with those of its front
-firsts-front : (xs ys : List Fact) → (zs : List (Fact × ℕ)) × (firsts (xs ++ ys) ≡ firsts xs ++ zs)
-firsts-front xs ys = (firsts_after (turned xs []) (length xs + 0) ys, firsts_after-append [] 0 xs ys)
-
-pub firsts-take : (n : ℕ) (facts : List Fact) → take (length (firsts (take n facts))) (firsts facts) ≡ firsts (take n facts)
-firsts-take n facts =
-    let front = firsts-front (take n facts) (drop n facts) in
-    let whole : firsts facts ≡ firsts (take n facts) ++ front.0 = ap firsts (sym (take-append-drop n facts)) ∙ front.1 in
-    ap (take (length (firsts (take n facts)))) whole ∙ take-append_seam (firsts (take n facts)) front.0
-
-pub firsts-snoc : (facts : List Fact) (f : Fact) → firsts (facts ++ f ∷ []) ≡ (cond (has facts f) (firsts facts) (firsts facts ++ (f, length facts) ∷ []))
-firsts-snoc facts f =
-    let seen : has (turned facts []) f ≡ has facts f = has-turned facts [] f ∙ or_none (has facts f) in
-    let n : length facts + 0 ≡ length facts = omega arith in
-    firsts_after-append [] 0 facts (f ∷ []) ∙ rw (seen, n) (by (has facts f))
-  where
-    by : (b : Bool) → firsts facts ++ cond b [] ((f, length facts) ∷ []) ≡ cond b (firsts facts) (firsts facts ++ (f, length facts) ∷ [])
-    by true = append-nil (firsts facts)
-    by false = refl
-
-append-assoc : {X : Type 0} (a b c : List X) → a ++ (b ++ c) ≡ (a ++ b) ++ c
-append-assoc [] b c = refl
-append-assoc (x ∷ a) b c = ap (λ l. x ∷ l) (append-assoc a b c)
+places-take : (n : ℕ) (facts : List Fact) (rows : List ℕ) → front_of (places_of facts) (counts_in (places_of (take n facts)) rows) ≡ places_of (take n facts)
+places-take n facts rows =
+    λ i. record {
+      plain = table-take same_fact same_fact-Decides plain_key n facts i;
+      empty = table-take same_cube same_cube-Decides (region_key true) n facts i;
+      filled = table-take same_cube same_cube-Decides (region_key false) n facts i;
+    }
 
 row_places-append : (n : ℕ) (xs ys : List Fact) → row_places_from n (xs ++ ys) ≡ row_places_from n xs ++ row_places_from (length xs + n) ys
 row_places-append n [] ys = let z : n ≡ 0 + n = omega arith in ap (λ k. row_places_from k ys) z
@@ -185,38 +305,39 @@ take-take (suc i) (suc n) [] h = refl
 take-take (suc i) (suc n) (x ∷ xs) h = ap (λ l. x ∷ l) (take-take i n xs (omega (arith, h)))
 
 -- the tables of a path with one more fact
-pub indexed_more : (facts : List Fact) (places : List (Fact × ℕ)) (rows : List ℕ) (before : List Before) (f : Fact) (b : Before) → IsIndexed facts places rows before → b.different ≡ length places → b.rows ≡ length rows
+pub indexed_more : (facts : List Fact) (places : Places) (rows : List ℕ) (before : List Before) (f : Fact) (b : Before) → IsIndexed facts places rows before → b ≡ counts_in places rows
     → IsIndexed (facts ++ f ∷ []) (with_place places f (length facts)) (rows ++ row_place (length facts) f) (before ++ b ∷ [])
-indexed_more facts places rows before f b is d r =
+indexed_more facts places rows before f b is count =
     record {
-      places_are = subst (λ es. with_place es f (length facts) ≡ firsts (facts ++ f ∷ [])) (sym is.places_are) (rw (is_some-lookup-firsts facts f) (sym (firsts-snoc facts f)));
+      places_are = ap (λ (p : Places). with_place p f (length facts)) is.places_are ∙ sym (places-snoc facts f);
       rows_are = ap (λ l. l ++ row_place (length facts) f) is.rows_are ∙ sym (row_places-snoc facts f);
       counts = length-append before (b ∷ []) ∙ ap (λ n. n + 1) is.counts ∙ sym (length-append facts (f ∷ []));
       counted = λ i c e. elim (last_or_earlier before b i c e) [
         | inl w ↦ let h = is.counted i c w.1 in let k : i ≤ length facts = let p = w.0 in let q = is.counts in omega (arith, p, q) in rw (take-append-le i facts (f ∷ []) k) h
         | inr w ↦ let k : i ≡ length facts = w.0 ∙ is.counts in let t : take i (facts ++ f ∷ []) ≡ facts = ap (λ n. take n (facts ++ f ∷ [])) k ∙ take-append_seam facts (f ∷ []) in
-            let s : b ≡ c = w.1 in rw t (ap (λ (x : Before). x.different) (sym s) ∙ d ∙ ap length is.places_are, ap (λ (x : Before). x.rows) (sym s) ∙ r ∙ ap length is.rows_are)
+            rw t (sym w.1 ∙ count ∙ ap (λ p. counts_in p rows) is.places_are ∙ ap (counts_in (places_of facts)) is.rows_are)
       ];
     }
 
 -- the tables of the front of a path
-pub indexed_front : (facts : List Fact) (places : List (Fact × ℕ)) (rows : List ℕ) (before : List Before) (n : ℕ) (b : Before) → IsIndexed facts places rows before → slice_get before n ≡ Some b
-    → IsIndexed (take n facts) (take b.different places) (take b.rows rows) (take n before)
+pub indexed_front : (facts : List Fact) (places : Places) (rows : List ℕ) (before : List Before) (n : ℕ) (b : Before) → IsIndexed facts places rows before → slice_get before n ≡ Some b
+    → IsIndexed (take n facts) (front_of places b) (take b.rows rows) (take n before)
 indexed_front facts places rows before n b is at =
-    let h = is.counted n b at in
+    let h : b ≡ counts_in (places_of (take n facts)) (row_places (take n facts)) = is.counted n b at in
     record {
-      places_are = rw (h.0, is.places_are) (firsts-take n facts);
-      rows_are = rw (h.1, is.rows_are) (row_places-take n facts);
+      places_are = rw (h, is.places_are) (places-take n facts (row_places (take n facts)));
+      rows_are = rw (h, is.rows_are) (row_places-take n facts);
       counts = length-take n before ∙ ap (min n) is.counts ∙ sym (length-take n facts);
       counted = λ i c e. let w = in_front n before i c e in let p = w.0 in let k : i ≤ n = omega (arith, p) in rw (take-take i n facts k) (is.counted i c w.1);
     }
 
 -- what a look-up in the tables of a path finds
-pub place_found : (facts : List Fact) (places : List (Fact × ℕ)) (rows : List ℕ) (before : List Before) (f : Fact) → IsIndexed facts places rows before → lookup (same_fact f) places ≡ first_place facts f
-place_found facts places rows before f is = ap (lookup (same_fact f)) is.places_are ∙ lookup-firsts facts f ∙ sym (position_from-zero (same_fact f) facts)
+pub place_found : (facts : List Fact) (places : Places) (rows : List ℕ) (before : List Before) (f : Fact) → IsIndexed facts places rows before → place_in places f ≡ first_place facts f
+place_found facts places rows before f is = ap (λ (p : Places). place_in p f) is.places_are ∙ place_in-places facts f
 
-pub fact_found : (facts : List Fact) (places : List (Fact × ℕ)) (rows : List ℕ) (before : List Before) (f : Fact) → IsIndexed facts places rows before → is_some (lookup (same_fact f) places) ≡ has facts f
-fact_found facts places rows before f is = ap (λ es. is_some (lookup (same_fact f) es)) is.places_are ∙ is_some-lookup-firsts facts f
+pub fact_found : (facts : List Fact) (places : Places) (rows : List ℕ) (before : List Before) (f : Fact) → IsIndexed facts places rows before → is_some (place_in places f) ≡ has facts f
+fact_found facts places rows before f is =
+    ap is_some (place_found facts places rows before f is ∙ position_from-zero (same_fact f) facts) ∙ is_some-position_from (same_fact f) 0 facts
 
 row_by-found : (facts : List Fact) (i : ℕ) → (o : Option ℕ) → slice_get (row_places facts) i ≡ o → row_by facts (row_places facts) i ≡ slice_get (rows_of facts) i
 row_by-found facts i None e = ap (λ (o : Option ℕ). o >>= λ place. slice_get facts place >>= row_in) e ∙ sym (row_missing 0 facts i e)
@@ -225,29 +346,46 @@ row_by-found facts i (Some p) e =
     let place : slice_get facts p ≡ Some found.1 = let k : p ≡ found.0 = omega (arith, found.2) in ap (slice_get facts) k ∙ found.3 in
     ap (λ (o : Option ℕ). o >>= λ place. slice_get facts place >>= row_in) e ∙ ap (λ (o : Option Fact). o >>= row_in) place ∙ found.4
 
-pub row_found_at : (facts : List Fact) (places : List (Fact × ℕ)) (rows : List ℕ) (before : List Before) (n : ℕ) → IsIndexed facts places rows before → nat_eq n 0 ≡ false → row_by facts rows (n - 1) ≡ item_at (rows_of facts) n
+pub row_found_at : (facts : List Fact) (places : Places) (rows : List ℕ) (before : List Before) (n : ℕ) → IsIndexed facts places rows before → nat_eq n 0 ≡ false → row_by facts rows (n - 1) ≡ item_at (rows_of facts) n
 row_found_at facts places rows before zero is more = absurd (false≢true (sym more))
 row_found_at facts places rows before (suc i) is more =
     let back : i ≡ suc i - 1 = omega arith in
     subst (λ k. row_by facts rows k ≡ slice_get (rows_of facts) i) back (ap (λ l. row_by facts l i) is.rows_are ∙ row_by-found facts i (slice_get (row_places facts) i) refl)
 
 -- the invariant of a path stays where a fact is added, and where facts behind the root path are cut off
-pub more_kept : (roots : ℕ) (facts : List Fact) (places : List (Fact × ℕ)) (rows : List ℕ) (before : List Before) (f : Fact) (b : Before) → (roots ≤ length facts) × IsIndexed facts places rows before → b.different ≡ length places → b.rows ≡ length rows
-    → (roots ≤ length (facts ++ f ∷ [])) × IsIndexed (facts ++ f ∷ []) (with_place places f (length facts)) (rows ++ row_place (length facts) f) (before ++ b ∷ [])
-more_kept roots facts places rows before f b is d r =
-    let p = is.0 in let e = length-append facts (f ∷ []) in
-    (omega (arith, p, e), indexed_more facts places rows before f b is.1 d r)
+roots-length : (roots : List ℕ) → length (root_facts roots) ≡ length roots
+roots-length roots = length-map roots (λ r. Sign r true)
 
-pub front_kept : (roots : ℕ) (facts : List Fact) (places : List (Fact × ℕ)) (rows : List ℕ) (before : List Before) (n : ℕ) (b : Before) → (roots ≤ length facts) × IsIndexed facts places rows before → roots ≤ n → n ≤ length facts → slice_get before n ≡ Some b
-    → (roots ≤ length (take n facts)) × IsIndexed (take n facts) (take b.different places) (take b.rows rows) (take n before)
-front_kept roots facts places rows before n b is above within at =
-    (subst (λ k. roots ≤ k) (sym (length-take-le n facts within)) above, indexed_front facts places rows before n b is.1 at)
+pub roots_within : (roots : List ℕ) (facts : List Fact) → take (length roots) facts ≡ root_facts roots → length roots ≤ length facts
+roots_within roots facts begins =
+    let e : length (take (length roots) facts) ≡ length roots = ap length begins ∙ roots-length roots in
+    let m = length-take (length roots) facts in
+    omega (arith, e, m)
+
+pub roots_begin : (roots : List ℕ) → take (length roots) (root_facts roots) ≡ root_facts roots
+roots_begin roots = ap (λ n. take n (root_facts roots)) (sym (roots-length roots)) ∙ take-length (root_facts roots)
+
+pub begins_more : (roots : List ℕ) (facts more : List Fact) → take (length roots) facts ≡ root_facts roots → take (length roots) (facts ++ more) ≡ root_facts roots
+begins_more roots facts more begins = take-append-le (length roots) facts more (roots_within roots facts begins) ∙ begins
+
+pub begins_front : (roots : List ℕ) (facts : List Fact) (n : ℕ) → length roots ≤ n → take (length roots) facts ≡ root_facts roots → take (length roots) (take n facts) ≡ root_facts roots
+begins_front roots facts n above begins = take-take (length roots) n facts above ∙ begins
+
+pub more_kept : (roots : List ℕ) (facts : List Fact) (places : Places) (rows : List ℕ) (before : List Before) (f : Fact) (b : Before) → (take (length roots) facts ≡ root_facts roots) × IsIndexed facts places rows before → b ≡ counts_in places rows
+    → (take (length roots) (facts ++ f ∷ []) ≡ root_facts roots) × IsIndexed (facts ++ f ∷ []) (with_place places f (length facts)) (rows ++ row_place (length facts) f) (before ++ b ∷ [])
+more_kept roots facts places rows before f b is count =
+    (begins_more roots facts (f ∷ []) is.0, indexed_more facts places rows before f b is.1 count)
+
+pub front_kept : (roots : List ℕ) (facts : List Fact) (places : Places) (rows : List ℕ) (before : List Before) (n : ℕ) (b : Before) → (take (length roots) facts ≡ root_facts roots) × IsIndexed facts places rows before → length roots ≤ n → slice_get before n ≡ Some b
+    → (take (length roots) (take n facts) ≡ root_facts roots) × IsIndexed (take n facts) (front_of places b) (take b.rows rows) (take n before)
+front_kept roots facts places rows before n b is above at =
+    (begins_front roots facts n above is.0, indexed_front facts places rows before n b is.1 at)
 
 some_none : {X : Type 0} {x : X} → Some x ≡ None → ⊥
 some_none e = absurd cc
 
 -- a front as long as the list is the list
-pub whole : (facts : List Fact) (places : List (Fact × ℕ)) (rows : List ℕ) (before : List Before) (n : ℕ) → IsIndexed facts places rows before → n ≤ length facts → slice_get before n ≡ None → take n facts ≡ facts
+pub whole : (facts : List Fact) (places : Places) (rows : List ℕ) (before : List Before) (n : ℕ) → IsIndexed facts places rows before → n ≤ length facts → slice_get before n ≡ None → take n facts ≡ facts
 whole facts places rows before n is within at =
     elim (slice_get_cases before n).1 [
       | inl w ↦ absurd (some_none (sym w.2 ∙ at))
@@ -258,6 +396,9 @@ lookup-none : {X : Type 0} (o : Option X) → is_some o ≡ false → o ≡ None
 lookup-none None e = refl
 lookup-none (Some x) e = absurd (false≢true (sym e))
 
--- a fact without a place gets one behind the others
-pub place_added : {S : Type 0} (m : IndexMap Fact ℕ S) (f : Fact) (n : ℕ) → is_some (lookup (same_fact f) m.entries) ≡ false → insert_entry same_fact m.entries f n ≡ with_place m.entries f n
+-- a key without a place gets one behind the others
+pub place_added : {S : Type 0} (m : IndexMap Fact ℕ S) (f : Fact) (n : ℕ) → is_some (lookup (same_fact f) m.entries) ≡ false → insert_entry same_fact m.entries f n ≡ with_first same_fact m.entries (Some f) n
 place_added m f n none = insert_entry-new same_fact m f n (lookup-none _ none) ∙ rw none refl
+
+pub region_added : {S : Type 0} (m : IndexMap Cube ℕ S) (c : Cube) (n : ℕ) → is_some (lookup (same_cube c) m.entries) ≡ false → insert_entry same_cube m.entries c n ≡ with_first same_cube m.entries (Some c) n
+region_added m c n none = insert_entry-new same_cube m c n (lookup-none _ none) ∙ rw none refl

@@ -1,7 +1,8 @@
 -- Tests of equality of facts and of their names, and that each decides equality.
-use Rattle.std.specs.Prelude.{◌≡◌, ℕ, Bool, false, ◌&&◌, nat_eq}
+use Rattle.std.specs.Prelude.{◌≡◌, ℕ, Bool, false, ◌&&◌, nat_eq, List}
 use Rattle.std.specs.Bool.{Decides}
 use Rattle.std.specs.Cmp.{unsigned_Decides}
+use Rattle.std.specs.Cmp.Lexicographic.{pointwise, pointwise_decides}
 use Rattle.std.proofs.Common.{ap}
 use Rattle.std.proofs.lemmas.Bool.{false≢true}
 use Rattle.sc_terms.specs.Same.{both-Decides, same_truth, same_truth-Decides, same_cube, same_cube-Decides, same_row, same_row-Decides}
@@ -42,6 +43,12 @@ same_fact-Decides (Row a) (Row b) = through Row (λ e. cc) (same_row-Decides a b
 same_fact-Decides (Empty c a) (Empty d b) =
     both-Decides _ _ (same_cube-Decides c d) (same_truth-Decides a b) (λ p q. λ i. Empty (p i) (q i)) (λ e. cc) (λ e. cc)
 same_fact-Decides _ _ = (λ e. absurd (false≢true e), λ e. cc)
+
+abbrev pub same_facts : List Fact → List Fact → Bool
+same_facts = pointwise same_fact
+
+pub same_facts-Decides : (a b : List Fact) → Decides (same_facts a b) (a ≡ b)
+same_facts-Decides = pointwise_decides same_fact-Decides
 
 abbrev pub same_name : FactName → FactName → Bool
 same_name (names.Sign f) (names.Sign g) = nat_eq f g

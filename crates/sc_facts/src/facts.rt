@@ -4,7 +4,7 @@ ghost use Rattle.std.specs.Prelude.{◌≡◌, [], ◌∷◌, ◌++◌, length, 
 
 use crate::fact::Fact;
 use sc_terms::Memory;
-use std::alloc::Global;
+use std::alloc::{AllocError, Global};
 use std::marker::Model;
 
 /// A list of facts, seen as the list.
@@ -52,6 +52,20 @@ impl Facts {
         }
     }
 
+    /// The list of a vector's facts; takes no memory.
+    pub fn from_vec(facts: Vec<Fact>) -> Facts
+        ensures { result ≡ facts.items }
+    {
+        Facts { facts }
+    }
+
+    /// The vector of the facts; takes no memory.
+    pub fn into_vec(self) -> Vec<Fact>
+        ensures { result.items ≡ self }
+    {
+        self.facts
+    }
+
     /// The facts in order.
     pub fn as_slice(&self) -> &[Fact]
         ensures { result.now ≡ self.now }
@@ -64,5 +78,38 @@ impl Facts {
         ensures { result ≡ length self.now }
     {
         self.facts.len()
+    }
+}
+
+impl PartialEq for Facts {
+    ghost use Rattle.std.specs.Cmp.{partial_equiv_from_equiv, decided};
+    ghost use Rattle.sc_facts.specs.Same.{same_facts, same_facts-Decides};
+
+    ghost eq = { same_facts };
+
+    ghost laws = { partial_equiv_from_equiv (decided same_facts same_facts-Decides) };
+
+    fn eq(&self, other: &Facts) -> bool {
+        self.facts.as_slice() == other.facts.as_slice()
+    }
+}
+
+impl Eq for Facts {
+    ghost use Rattle.std.specs.Cmp.{decided};
+    ghost use Rattle.sc_facts.specs.Same.{same_facts, same_facts-Decides};
+
+    ghost laws = { decided same_facts same_facts-Decides };
+}
+
+/// A copy is equal.
+impl Clone for Facts {
+    ghost use Rattle.std.specs.Prelude.{◌≡◌};
+
+    ghost is_clone = { λ a b. b ≡ a };
+
+    fn clone(&self) -> Result<Facts, AllocError> {
+        Ok(Facts {
+            facts: self.facts.clone()?,
+        })
     }
 }

@@ -6,11 +6,14 @@
 mod fact;
 mod facts;
 mod name;
+mod note;
 mod path;
+mod places;
 #[cfg(test)]
 mod tests;
 
 pub use fact::Fact;
 pub use facts::Facts;
 pub use name::FactName;
+pub use note::{Cubes, Note, RowNumbers};
 pub use path::Path;

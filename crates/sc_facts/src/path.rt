@@ -4,60 +4,38 @@ ghost use Rattle.std.specs.Prelude.{◌≡◌, ◌≤◌, ◌<◌, [], ◌∷◌
 ghost use Rattle.std.specs.Option.{option_copied};
 ghost use Rattle.sc_base.specs.Numbered.{item_at};
 ghost use Rattle.sc_terms.specs.Conditions.{IsProblem};
-ghost use Rattle.sc_facts.specs.Facts.{has, first_place, row_in, rows_of};
+ghost use Rattle.sc_facts.specs.Facts.{has, named, first_place, row_in, rows_of};
 ghost use Rattle.std.specs.Vec.{vec_len, vec_capacity};
-ghost use Rattle.sc_facts.specs.Paths.{from_root, with_facts, with_place, row_place, row_by};
+ghost use Rattle.sc_facts.specs.Paths.{root_count, BeginsWithRoots, from_root, with_facts, row_place, row_by};
 
 use crate::fact::Fact;
-use indexmap::IndexMap;
-use sc_terms::{Memory, Problem, Row};
-use std::alloc::Global;
+use crate::facts::Facts;
+use crate::name::FactName;
+use crate::places::{Before, FirstPlaces};
+use sc_terms::{Memory, Numbers, Problem, Row};
+use std::alloc::{AllocError, Global};
 use std::marker::Model;
 
-/// What stands before a place of a path.
-#[derive(Clone, Copy)]
-pub struct Before {
-    /// How many different facts.
-    pub different: usize,
-    /// How many rows.
-    pub rows: usize,
-}
-
-/// The facts of a branch, those of the root path first; seen as the list of its facts, with how many are the root path's.
+/// The facts of a branch, seen as a list that begins with those of the root path: each root is true, in their order. Seen with the roots.
 #[derive(Drop)]
 pub struct Path {
-    root_count: usize,
+    roots: Numbers,
     facts: Vec<Fact>,
-    /// Each different fact with the first place where it stands, from 0.
-    first_places: IndexMap<Fact, usize>,
+    first_places: FirstPlaces,
     /// The places of the rows.
     row_places: Vec<usize>,
-    /// What stands before each place.
+    /// What the tables have before each place.
     before: Vec<Before>,
 }
 
 impl Model for Path {
-    ghost use Rattle.std.specs.Prelude.{◌≤◌, length};
-    ghost use Rattle.sc_facts.specs.Paths.{PathFacts, IsIndexed};
+    ghost use Rattle.sc_facts.specs.Paths.{PathFacts, BeginsWithRoots, IsIndexed};
 
     ghost Value = { PathFacts };
 
-    ghost view = { λ p. record { root_count = p.root_count; facts = p.facts.items } };
+    ghost view = { λ p. record { roots = p.roots; facts = p.facts.items } };
 
-    ghost invariant = { λ p. (p.root_count ≤ length p.facts.items) × IsIndexed p.facts.items p.first_places.entries p.row_places.items p.before.items };
-}
-
-/// Notes the place of a fact that has none yet. Where memory is refused the places stay as they were.
-#[tactic(auto, using(crate::proofs::Lookups::place_added))]
-fn note_place(places: &mut IndexMap<Fact, usize>, fact: &Fact, place: usize) -> Result<(), Memory>
-    ensures ok { OnOk result (places.new.entries ≡ with_place places.old.entries fact.now place) }
-    ensures err { OnErr result (places.new.entries ≡ places.old.entries) }
-{
-    if places.contains_key(fact) {
-        return Ok(());
-    }
-    places.insert(fact.clone()?, place)?;
-    Ok(())
+    ghost invariant = { λ p. BeginsWithRoots (record { roots = p.roots; facts = p.facts.items }) × IsIndexed p.facts.items p.first_places p.row_places.items p.before.items };
 }
 
 /// Notes the place of a fact that is a row. There is room for it.
@@ -98,12 +76,12 @@ fn row_at<'a>(facts: &'a [Fact], places: &[usize], index: usize) -> Option<&'a R
 impl Path {
     /// The path of no facts.
     fn empty(alloc: Global) -> Path
-        ensures { result ≡ record { root_count = 0; facts = [] } }
+        ensures { result ≡ record { roots = []; facts = [] } }
     {
         Path {
-            root_count: 0,
+            roots: Numbers::new(alloc),
             facts: Vec::new(alloc),
-            first_places: IndexMap::new(alloc),
+            first_places: FirstPlaces::new(alloc),
             row_places: Vec::new(alloc),
             before: Vec::new(alloc),
         }
@@ -114,13 +92,14 @@ impl Path {
         ensures path { IfOk result (λ path. path ≡ from_root problem.now) }
         ensures problem { IsProblem problem.now }
     {
+        let roots = Numbers::from_slice(alloc, problem.roots())?;
         let mut path = Path::empty(alloc);
         for root in problem.roots() {
             if path.push(Fact::Sign(*root, true)).is_err() {
                 return Err(Memory);
             }
         }
-        path.root_count = path.facts.len();
+        path.roots = roots;
         Ok(path)
     }
 
@@ -131,14 +110,11 @@ impl Path {
         ensures err { OnErr result (self.new ≡ self.old) }
     {
         let place = self.facts.len();
-        let before = Before {
-            different: self.first_places.len(),
-            rows: self.row_places.len(),
-        };
+        let before = self.first_places.counts(self.row_places.len());
         self.facts.reserve(1)?;
         self.before.reserve(1)?;
         self.row_places.reserve(1)?;
-        note_place(&mut self.first_places, &fact, place)?;
+        self.first_places.note(&fact, place)?;
         note_row(&mut self.row_places, &fact, place);
         self.before.push_reserved(before);
         self.facts.push_reserved(fact);
@@ -158,10 +134,39 @@ impl Path {
         added
     }
 
+    /// Adds the facts at the end, in their order; takes no copies of them. Where memory is refused the path stays as it was.
+    pub fn append(&mut self, facts: Facts) -> Result<(), Memory>
+        ensures ok { OnOk result (self.new ≡ with_facts self.old (self.old.facts ++ facts)) }
+        ensures err { OnErr result (self.new ≡ self.old) }
+    {
+        let length = self.len();
+        let added = self.add_facts(facts);
+        if added.is_err() {
+            self.cut_back(length);
+        }
+        added
+    }
+
+    /// Adds the facts at the end, or some of them where memory is refused.
+    fn add_facts(&mut self, facts: Facts) -> Result<(), Memory>
+        ensures ok { OnOk result (self.new ≡ with_facts self.old (self.old.facts ++ facts)) }
+        ensures roots { self.new.roots ≡ self.old.roots }
+        ensures longer { length self.old.facts ≤ length self.new.facts }
+        ensures front { take (length self.old.facts) self.new.facts ≡ self.old.facts }
+    {
+        for fact in facts.into_vec() {
+            match self.push(fact) {
+                Ok(()) => {}
+                Err(e) => return Err(e),
+            }
+        }
+        Ok(())
+    }
+
     /// Adds copies of the facts at the end, or of some of them where memory is refused.
     fn add_copies(&mut self, facts: &[Fact]) -> Result<(), Memory>
         ensures ok { OnOk result (self.new ≡ with_facts self.old (self.old.facts ++ facts.now)) }
-        ensures roots { self.new.root_count ≡ self.old.root_count }
+        ensures roots { self.new.roots ≡ self.old.roots }
         ensures longer { length self.old.facts ≤ length self.new.facts }
         ensures front { take (length self.old.facts) self.new.facts ≡ self.old.facts }
     {
@@ -177,17 +182,17 @@ impl Path {
         Ok(())
     }
 
-    /// Keeps the first facts alone, so many as `count` says.
+    /// Keeps the first facts alone, so many as `count` says, which are those of the root path at least.
     #[tactic(auto, using(crate::proofs::Lookups::front_kept, crate::proofs::Lookups::whole))]
     pub fn cut_back(&mut self, count: usize)
-        requires roots { self.old.root_count ≤ count }
+        requires roots { root_count self.old ≤ count }
         requires facts { count ≤ length self.old.facts }
         ensures { self.new ≡ with_facts self.old (take count self.old.facts) }
     {
         let Some(before) = before_at(self.before.as_slice(), count) else {
             return;
         };
-        self.first_places.truncate(before.different);
+        self.first_places.truncate(before);
         self.row_places.truncate(before.rows);
         self.before.truncate(count);
         self.facts.truncate(count);
@@ -196,7 +201,7 @@ impl Path {
     /// The facts in order, those of the root path first.
     pub fn facts(&self) -> &[Fact]
         ensures facts { result.now ≡ self.now.facts }
-        ensures roots { self.now.root_count ≤ length self.now.facts }
+        ensures front { BeginsWithRoots self.now }
     {
         self.facts.as_slice()
     }
@@ -204,16 +209,25 @@ impl Path {
     /// How many facts there are.
     pub fn len(&self) -> usize
         ensures len { result ≡ length self.now.facts }
-        ensures roots { self.now.root_count ≤ length self.now.facts }
+        ensures roots { root_count self.now ≤ length self.now.facts }
     {
         self.facts.len()
     }
 
+    /// The roots on which the path stands: its first facts are that each is true, in this order.
+    pub fn roots(&self) -> &[u32]
+        ensures roots { result.now ≡ self.now.roots }
+        ensures front { BeginsWithRoots self.now }
+    {
+        self.roots.as_slice()
+    }
+
     /// How many facts are the root path's.
     pub fn root_count(&self) -> usize
-        ensures { result ≡ self.now.root_count }
+        ensures count { result ≡ root_count self.now }
+        ensures within { result ≤ length self.now.facts }
     {
-        self.root_count
+        self.roots.len()
     }
 
     /// Whether the fact stands on the path. A look-up, with no walk along the path.
@@ -221,7 +235,15 @@ impl Path {
     pub fn has(&self, fact: &Fact) -> bool
         ensures { result ≡ has self.now.facts fact.now }
     {
-        self.first_places.contains_key(fact)
+        self.first_places.find(fact).is_some()
+    }
+
+    /// Whether the fact with this name and sign stands on the path. A look-up, with no walk along the path and no copy of a region.
+    #[tactic(auto, using(crate::proofs::Lookups::fact_found))]
+    pub fn has_named(&self, name: &FactName, sign: bool) -> bool
+        ensures { result ≡ has self.now.facts (named name.now sign) }
+    {
+        self.first_places.find_named(name, sign).is_some()
     }
 
     /// The first place where the fact stands, from 0, or nothing where it doesn't. A look-up, with no walk along the path.
@@ -229,7 +251,7 @@ impl Path {
     pub fn first_place(&self, fact: &Fact) -> Option<usize>
         ensures { result ≡ first_place self.now.facts fact.now }
     {
-        self.first_places.get(fact).copied()
+        self.first_places.find(fact)
     }
 
     /// The row fact with this number, counted from 1 in path order, or nothing where there is none. A look-up, with no walk along the path.
@@ -245,5 +267,22 @@ impl Path {
             self.row_places.as_slice(),
             number as usize - 1,
         )
+    }
+}
+
+/// A copy is equal.
+impl Clone for Path {
+    ghost use Rattle.std.specs.Prelude.{◌≡◌};
+
+    ghost is_clone = { λ a b. b ≡ a };
+
+    fn clone(&self) -> Result<Path, AllocError> {
+        Ok(Path {
+            roots: self.roots.clone()?,
+            facts: self.facts.clone()?,
+            first_places: self.first_places.clone()?,
+            row_places: self.row_places.clone()?,
+            before: self.before.clone()?,
+        })
     }
 }

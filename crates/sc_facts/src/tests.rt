@@ -42,7 +42,7 @@ fn contradiction(alloc: Global) -> Result<Problem, Memory> {
     Ok(Problem::from_parts(literals(alloc)?))
 }
 
-/// The root path, then a row, then the first root's sign again.
+/// A copy of the root path, then a row, then the first root's sign again, then the second's opposite.
 fn longer(alloc: Global, problem: &Problem) -> Result<Path, Memory> {
     let mut path = Path::root(alloc, problem)?;
     path.push(Fact::Row(Row {
@@ -50,14 +50,16 @@ fn longer(alloc: Global, problem: &Problem) -> Result<Path, Memory> {
         bound: -1,
     }))?;
     path.extend(&[Fact::Sign(1, true)])?;
-    Ok(path)
+    path.append(Facts::one(alloc, Fact::Sign(2, false))?)?;
+    Ok(path.clone()?)
 }
 
 fn check_path(rt: &impl Abort, path: &Path) {
-    assert!(rt; path.len() == 4);
+    assert!(rt; path.len() == 5);
     assert!(rt; path.root_count() == 2);
     assert!(rt; path.first_place(&Fact::Sign(2, true)) == Some(1));
-    assert!(rt; path.first_place(&Fact::Sign(2, false)).is_none());
+    assert!(rt; path.first_place(&Fact::Sign(1, false)).is_none());
+    assert!(rt; path.has_named(&FactName::Sign(2), false));
     assert!(rt; matches!(path.row(1), Some(Row { bound: -1, .. })));
     assert!(rt; path.row(2).is_none());
     assert!(rt; path.has(&path.facts()[3]));
@@ -90,6 +92,7 @@ fn names_with_signs(rt: HostRuntime) -> Result<(), Fail> {
     };
     let name = FactName::Empty(cube);
     let facts = Facts::one(rt.alloc(), name.with_sign(false)?)?;
+    assert!(&rt; facts == facts.clone()?);
     assert!(&rt; facts.len() == 1);
     assert!(&rt; matches!(&facts.as_slice()[0], Fact::Empty(_, false)));
     assert!(&rt; name == name.clone()?);

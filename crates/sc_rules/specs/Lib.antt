@@ -1,2 +1,3 @@
 pub mod Boolean
 pub mod Steps
+pub mod Same

@@ -26,7 +26,8 @@ fn has_sign(path: &Path, formula: u32, sign: bool) -> bool
     path.has(&Fact::Sign(formula, sign))
 }
 
-fn sign_of(path: &Path, formula: u32) -> Option<bool>
+/// The sign that a path gives a formula, a plus where it gives both; nothing exactly where it gives none.
+pub fn sign_of(path: &Path, formula: u32) -> Option<bool>
     ensures { result ≡ spec.sign_of path.now.facts formula }
 {
     first_sign(
@@ -65,8 +66,8 @@ fn differ(path: &Path, f: u32, g: u32) -> bool
         || (has_sign(path, f, false) && has_sign(path, g, true))
 }
 
-/// The sign that a formula's parts force on it.
-fn own_sign(path: &Path, node: &Formula) -> Option<bool>
+/// The sign that a formula's parts, by their signs on the path, force on it, a plus where they force both; nothing exactly where they force none.
+pub fn own_sign(path: &Path, node: &Formula) -> Option<bool>
     ensures { result ≡ spec.own_sign path.now.facts node.now }
 {
     match node {

@@ -9,5 +9,6 @@ mod step;
 #[cfg(test)]
 mod tests;
 
+pub use boolean::{own_sign, sign_of};
 pub use laws::steps_are_sound;
 pub use step::{Branches, PlainStep, StepError, apply};

@@ -7,10 +7,10 @@ ghost use Rattle.sc_rules.specs.Steps as spec;
 use crate::boolean::{all_fact, atom_fact, unit_fact};
 use sc_facts::{Fact, FactName, Facts, Path};
 use sc_terms::{Memory, Problem};
-use std::alloc::Global;
+use std::alloc::{AllocError, Global};
 
 /// A step of a derivation that needs no region tree. Formulas are named by their numbers, and parts by their places from 1.
-#[derive(Drop, PartialEq, Eq)]
+#[derive(Drop)]
 pub enum PlainStep {
     /// A formula that states a membership has a sign: concludes the membership with that sign.
     Atom(u32),
@@ -20,6 +20,48 @@ pub enum PlainStep {
     Unit(u32, u32),
     /// Two branches: the fact with this name with a plus, then with a minus.
     Cut(FactName),
+}
+
+impl PartialEq for PlainStep {
+    ghost use Rattle.std.specs.Cmp.{partial_equiv_from_equiv, decided};
+    ghost use Rattle.sc_rules.specs.Same.{same_plain, same_plain-Decides};
+
+    ghost eq = { same_plain };
+
+    ghost laws = { partial_equiv_from_equiv (decided same_plain same_plain-Decides) };
+
+    fn eq(&self, other: &PlainStep) -> bool {
+        match (self, other) {
+            (PlainStep::Atom(m), PlainStep::Atom(n)) => m == n,
+            (PlainStep::All(m, p), PlainStep::All(n, q)) => m == n && p == q,
+            (PlainStep::Unit(m, p), PlainStep::Unit(n, q)) => m == n && p == q,
+            (PlainStep::Cut(a), PlainStep::Cut(b)) => a == b,
+            _ => false,
+        }
+    }
+}
+
+impl Eq for PlainStep {
+    ghost use Rattle.std.specs.Cmp.{decided};
+    ghost use Rattle.sc_rules.specs.Same.{same_plain, same_plain-Decides};
+
+    ghost laws = { decided same_plain same_plain-Decides };
+}
+
+/// A copy is equal.
+impl Clone for PlainStep {
+    ghost use Rattle.std.specs.Prelude.{◌≡◌};
+
+    ghost is_clone = { λ a b. b ≡ a };
+
+    fn clone(&self) -> Result<PlainStep, AllocError> {
+        match self {
+            PlainStep::Atom(n) => Ok(PlainStep::Atom(*n)),
+            PlainStep::All(n, p) => Ok(PlainStep::All(*n, *p)),
+            PlainStep::Unit(n, p) => Ok(PlainStep::Unit(*n, *p)),
+            PlainStep::Cut(name) => Ok(PlainStep::Cut(name.clone()?)),
+        }
+    }
 }
 
 /// The branches of a step, each with the facts that it concludes there.

@@ -1,4 +1,5 @@
 use Rattle.std.proofs.Common.{◌≡◌, drop}
+use Rattle.sc_deriv.specs.Acceptance.{hypotheses_of}
 use Rattle.sc_deriv.specs.Judging.{judge}
 use Rattle.sc_deriv.proofs.checker.judge.Given as goal
 
@@ -6,6 +7,6 @@ use Rattle.sc_deriv.proofs.checker.judge.Given as goal
 abbrev pub invariant-loop-node : goal.invariant-loop-node
 invariant-loop-node l =
     record {
-      told : judge l.problem l.walk (drop l.node-index l.nodes) l.number ≡ judge l.problem l.fn.walk l.nodes 0;
+      told : judge l.problem (hypotheses_of l.lemmas) l.walk (drop l.node-index l.nodes) l.number ≡ judge l.problem (hypotheses_of l.lemmas) l.fn.walk l.nodes 0;
       count : l.number ≡ l.node-index;
     }

@@ -5,7 +5,6 @@ use Rattle.sc_facts.proofs.path.Path.cut_back.Goals as goal
 
 pub invariant_of-self : goal.invariant_of-self
 invariant_of-self c =
-    let above : c.self.inside.root_count ≤ c.args.count = search rules in
-    let within : c.args.count ≤ length c.self.inside.facts.items = search rules in
+    let above : length c.self.inside.roots ≤ c.args.count = search rules in
     let at : slice_get c.self.inside.before.items c.args.count ≡ Some c.in-Some.before = search rules in
-    rw (c.truncate-4.ensures.items, c.truncate-3.ensures.items, c.truncate-2.ensures.items, c.truncate.ensures.entries) (front_kept _ _ _ _ _ _ _ c.self.invariant above within at)
+    rw (c.truncate-4.ensures.items, c.truncate-3.ensures.items, c.truncate-2.ensures.items, c.truncate.ensures) (front_kept _ _ _ _ _ _ _ c.self.invariant above at)
