@@ -1,0 +1,17 @@
+pub mod Cells
+pub mod Tickets
+pub mod Lists
+pub mod Kept
+pub mod Comes
+pub mod Paths
+pub mod Models
+pub mod Sound
+pub mod Tried
+pub mod Climbing
+pub mod HandingOut
+pub mod Preorder
+pub mod ClosedTrees
+pub mod Spelt
+pub mod Deciding
+pub mod HoldingOn
+pub mod LeanSteps

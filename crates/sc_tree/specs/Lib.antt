@@ -1,0 +1,14 @@
+pub mod Boolean
+pub mod Budgets
+pub mod Verdicts
+pub mod Chains
+pub mod Lean
+pub mod Events
+pub mod Machine
+pub mod Answering
+pub mod Laws
+pub mod Reading
+pub mod Keeping
+pub mod Descent
+pub mod Trying
+pub mod Climbing

@@ -1,0 +1,10 @@
+//! How long is worked on a check.
+
+/// How much work a check may take.
+#[derive(Clone, Copy, Debug, PartialEq, Eq)]
+pub enum Budget {
+    /// So many steps on each branch, 1 to 2^40.
+    Steps(u64),
+    /// As many steps as the assertions need.
+    Full,
+}
