@@ -1,0 +1,131 @@
+-- What a leaf allows.
+use Rattle.std.proofs.Common.{◌≡◌, ◌≢◌, ℕ, zero, suc, ◌<◌, ◌≤◌, Bool, true, false, cond, List, [], ◌∷◌, ◌++◌, length, Option, Some, None, refl, sym, ap, subst, ◌∙◌, append-nil, length-append, arith}
+use Rattle.std.specs.Prelude.{is_some, IsTrue}
+use Rattle.std.specs.List.{AllByRecursion}
+use Rattle.std.proofs.lemmas.Bool.{false≢true}
+use Rattle.sc_base.specs.Numbered.{item_at}
+use Rattle.sc_base.specs.Options.{◌>>=◌}
+use Rattle.sc_base.proofs.Bools.{or_right}
+use Rattle.sc_terms.specs.declared.nodes.Formula.{Formula}
+use Rattle.sc_terms.specs.declared.problem.Parts.{Parts}
+use Rattle.sc_terms.specs.Lookup.{formula_at}
+use Rattle.sc_terms.specs.Conditions.{IsIn}
+use Rattle.sc_facts.specs.declared.fact.Fact.{Fact}
+use Rattle.sc_facts.specs.declared.fact.Fact.TheVariants as facts
+use Rattle.sc_facts.specs.declared.name.FactName.{FactName}
+use Rattle.sc_facts.specs.declared.name.FactName.TheVariants as names
+use Rattle.sc_facts.specs.Same.{same_fact, same_fact-Decides}
+use Rattle.sc_facts.specs.Facts.{has, root_facts}
+use Rattle.sc_facts.specs.Paths.{with_facts}
+use Rattle.sc_rules.specs.declared.step.PlainStep.TheVariants.{Cut}
+use Rattle.sc_rules.specs.Boolean.{first_sign, sign, sign_of}
+use Rattle.sc_rules.specs.Steps.{branches}
+use Rattle.sc_deriv.specs.declared.derivation.Closing.TheVariants.{Clash}
+use Rattle.sc_deriv.specs.declared.derivation.Step.{Step}
+use Rattle.sc_deriv.specs.declared.derivation.Step.TheVariants.{Plain}
+use Rattle.sc_deriv.specs.declared.derivation.Taken.{Taken}
+use Rattle.sc_deriv.specs.declared.derivation.Reason.TheVariants.{Q2}
+use Rattle.sc_deriv.specs.Acceptance.{clashes}
+use Rattle.sc_deriv.specs.Taking.{path_after}
+use Rattle.sc_tree.specs.declared.machine.Event.TheVariants as events
+use Rattle.sc_tree.specs.Chains.{taken, grow, firsts}
+use Rattle.sc_tree.specs.Lean.{IsWithin}
+use Rattle.sc_tree.specs.Events.{HasNoClash, Closes, AllowsOn}
+use Rattle.sc_branch.specs.Settled.{IsSettled}
+use Rattle.sc_branch.specs.Deciding.{IsBorneOut}
+use Rattle.sc_branch.specs.Growing.{Held, IsOn, IsHeldAfter, Growth, IsGrown, GoesOn}
+use Rattle.sc_branch.proofs.Reading.{item_low}
+use Rattle.sc_branch.proofs.Steps.{path_keeps, lean_on}
+
+-- ---- growing
+abbrev pub held : Growth → Held
+held g = record { path = g.path; steps = g.steps }
+
+module _ (problem : Parts) (budget : ℕ) (h : Held) (old new rest : Growth) (chain : List Step) (is : h ≡ held old) (none : old.chain ≡ []) (on : IsOn problem budget h.path.facts h.steps) (goes : GoesOn problem budget old new) (took : chain ≡ new.chain) (left : rest ≡ record { path = new.path; steps = new.steps; chain = [] }) where
+  start : IsGrown problem budget (held old) old
+  start = record {
+    on = subst (λ x. IsOn problem budget x.path.facts x.steps) is on;
+    grown = ap (grow problem old.path.facts) none;
+    path = refl;
+    steps = sym (append-nil old.steps) ∙ ap (λ c. old.steps ++ firsts c) (sym none);
+  }
+
+  after : IsGrown problem budget (held old) new
+  after = goes (held old) start
+
+  pub taken_allowed : chain ≢ [] → AllowsOn problem budget h.path.facts h.steps (events.Grow chain)
+  taken_allowed some =
+      let steps : new.steps ≡ h.steps ++ firsts chain = after.steps ∙ (ap (λ x. x.steps ++ firsts new.chain) (sym is) ∙ ap (λ c. h.steps ++ firsts c) (sym took)) in
+      let grown : grow problem h.path.facts chain ≡ Some new.path.facts = ap (grow problem h.path.facts) took ∙ (ap (λ x. grow problem x.path.facts new.chain) is ∙ after.grown) in
+      (some, ap is_some grown, subst (IsWithin problem budget) steps after.on.within)
+
+  pub taken_held : IsHeldAfter problem h (events.Grow chain) (held rest)
+  taken_held =
+      subst (λ r. IsHeldAfter problem h (events.Grow chain) (held r)) (sym left)
+      (subst (λ x. IsHeldAfter problem x (events.Grow chain) (held new)) (sym is) (subst (λ c. IsHeldAfter problem (held old) (events.Grow c) (held new)) (sym took) (after.grown, after.path, after.steps)))
+
+  pub nothing_held : chain ≡ [] → held rest ≡ h
+  nothing_held nothing =
+      let empty : new.chain ≡ [] = sym took ∙ nothing in
+      let facts : new.path.facts ≡ old.path.facts = let same : Some old.path.facts ≡ Some new.path.facts = ap (grow problem old.path.facts) (sym empty) ∙ after.grown in cc in
+      let path : new.path ≡ old.path = after.path ∙ ap (with_facts old.path) facts in
+      let steps : new.steps ≡ old.steps = after.steps ∙ (ap (λ c. old.steps ++ firsts c) empty ∙ append-nil old.steps) in
+      ap held left ∙ ((λ i. record { path = path i; steps = steps i }) ∙ sym is)
+
+pub no_items : {X : Type 0} (xs : List X) (b : Bool) → (IsTrue b → length xs ≡ 0) → b ≡ true → xs ≡ []
+no_items [] b h e = refl
+no_items (x ∷ xs) b h e = absurd (omega (arith, h (subst IsTrue (sym e) refl)))
+
+-- ---- splitting
+unsigned : (path : List Fact) (f : ℕ) → sign_of path f ≡ None → (sign path f true ≡ false) × (sign path f false ≡ false)
+unsigned path f e = by (sign path f true) (sign path f false) e
+  where
+    by : (a b : Bool) → first_sign a b ≡ None → (a ≡ false) × (b ≡ false)
+    by true b h = absurd cc
+    by false true h = absurd cc
+    by false false h = (refl, refl)
+
+pub split_allowed : (problem : Parts) (budget : ℕ) (path : List Fact) (steps : List Taken) (f : ℕ) → IsOn problem budget path steps → sign_of path f ≡ None → is_some (formula_at problem f) ≡ true → length steps < budget → AllowsOn problem budget path steps (events.Split (Plain (Cut (names.Sign f))))
+split_allowed problem budget path steps f on none there room =
+    let apart = unsigned path f none in
+    let is : branches problem path (Cut (names.Sign f)) ≡ Some ((facts.Sign f true ∷ []) ∷ (facts.Sign f false ∷ []) ∷ []) = gives (formula_at problem f) there in (
+      (((facts.Sign f true ∷ []), (facts.Sign f false ∷ [])), is),
+      record { lean = lean_on problem steps path (taken step 1) (facts.Sign f true) on.within.lean on.leads (ap (λ o. o >>= (λ bs. item_at bs 1)) is) refl apart.0; few = more 1 },
+      record { lean = lean_on problem steps path (taken step 2) (facts.Sign f false) on.within.lean on.leads (ap (λ o. o >>= (λ bs. item_at bs 2)) is) refl apart.1; few = more 2 },
+    )
+  where
+    step : Step
+    step = Plain (Cut (names.Sign f))
+
+    gives : (o : Option Formula) → is_some o ≡ true → (o >>= λ node. Some ((facts.Sign f true ∷ []) ∷ (facts.Sign f false ∷ []) ∷ [])) ≡ Some ((facts.Sign f true ∷ []) ∷ (facts.Sign f false ∷ []) ∷ [])
+    gives None h = absurd (false≢true h)
+    gives (Some node) h = refl
+
+    more : (branch : ℕ) → length (steps ++ taken (Plain (Cut (names.Sign f))) branch ∷ []) ≤ budget
+    more branch = rw (length-append steps (taken (Plain (Cut (names.Sign f))) branch ∷ [])) (omega (arith, room))
+
+-- ---- closing
+pub close_allowed : (path : List Fact) (name : FactName) → clashes path name ≡ true → Closes path (Clash name)
+close_allowed path name e = ap (λ b. cond b None (Some Q2)) e
+
+-- ---- a model
+root_there : (rs : List ℕ) (r : ℕ) → has (root_facts (r ∷ rs)) (facts.Sign r true) ≡ true
+root_there rs r = rw ((same_fact-Decides (facts.Sign r true) (facts.Sign r true)).1 refl) refl
+
+pub roots_there : (problem : Parts) (path : List Fact) (steps : List Taken) → path_after problem steps ≡ Some path → AllByRecursion (λ r. sign path r true ≡ true) problem.roots
+roots_there problem path steps leads = all problem.roots (λ x h. path_keeps problem (root_facts problem.roots) path steps leads x h)
+  where
+    all : (rs : List ℕ) → ((x : Fact) → has (root_facts rs) x ≡ true → has path x ≡ true) → AllByRecursion (λ r. sign path r true ≡ true) rs
+    all [] keeps = tt
+    all (r ∷ rs) keeps = (keeps (facts.Sign r true) (root_there rs r), all rs (λ x h. keeps x (or_right (same_fact x (facts.Sign r true)) (has (root_facts rs) x) h)))
+
+pub settled : (problem : Parts) (budget : ℕ) (path : List Fact) (steps : List Taken) → IsOn problem budget path steps → HasNoClash path → ((n : ℕ) → IsIn (length problem.formulas) n → IsBorneOut problem path n) → IsSettled problem path
+settled problem budget path steps on apart borne = record {
+  roots = roots_there problem path steps on.leads;
+  apart = apart;
+  borne_out = λ n node s at e. borne n (first n node at, item_low problem.formulas n node at) node s at e;
+}
+  where
+    first : (n : ℕ) (node : Formula) → formula_at problem n ≡ Some node → 0 < n
+    first zero node at = absurd cc
+    first (suc n) node at = omega arith

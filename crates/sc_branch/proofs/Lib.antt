@@ -1,0 +1,9 @@
+mod Signed
+mod Shown
+mod Gathering
+mod Reading
+mod Clashing
+mod Steps
+mod Due
+mod Allowed
+mod Full

@@ -1,0 +1,241 @@
+//! Spreading the signs of a path to the formulas' parts, and from parts to formulas: unit propagation with a counter for each formula.
+
+ghost use Rattle.std.specs.Prelude.{OnOk};
+ghost use Rattle.sc_branch.specs.Growing.{GoesOn};
+
+use crate::agenda::{Agenda, Signed};
+use crate::growth::Growing;
+use sc_facts::Fact;
+use sc_rules::PlainStep;
+use sc_terms::{Formula, Memory, Problem};
+use std::alloc::Global;
+
+/// Tries a step that would give a formula this sign.
+fn attempt_sign(
+    growing: &mut Growing,
+    alloc: Global,
+    problem: &Problem,
+    budget: u64,
+    signed: Signed,
+    step: PlainStep,
+) -> Result<(), Memory>
+    ensures { OnOk result (GoesOn problem.now budget growing.old growing.new) }
+{
+    if growing.path().has(&Fact::Sign(signed.formula, signed.sign)) {
+        return Ok(());
+    }
+    growing.attempt(alloc, problem, budget, step)
+}
+
+/// Gives each part of an `and` or an `or` the formula's sign.
+fn spread_to_all(
+    growing: &mut Growing,
+    alloc: Global,
+    problem: &Problem,
+    budget: u64,
+    signed: Signed,
+    parts: &[u32],
+) -> Result<(), Memory>
+    ensures { OnOk result (GoesOn problem.now budget growing.old growing.new) }
+{
+    let mut place = 0;
+    for part in parts {
+        if place == u32::MAX {
+            return Ok(());
+        }
+        place += 1;
+        let due = Signed {
+            formula: *part,
+            sign: signed.sign,
+        };
+        let step = PlainStep::All(signed.formula, place);
+        attempt_sign(growing, alloc, problem, budget, due, step)?;
+    }
+    Ok(())
+}
+
+/// The place, from 1, of the first part that lacks the sign.
+fn lacking_place(growing: &Growing, parts: &[u32], sign: bool) -> Option<u32> {
+    let mut place = 0;
+    for part in parts {
+        if place == u32::MAX {
+            return None;
+        }
+        place += 1;
+        if !growing.path().has(&Fact::Sign(*part, sign)) {
+            return Some(place);
+        }
+    }
+    None
+}
+
+/// Gives the part of a false `and`, or of a true `or`, that alone lacks the other sign that sign.
+fn spread_to_last(
+    growing: &mut Growing,
+    alloc: Global,
+    problem: &Problem,
+    budget: u64,
+    formula: u32,
+) -> Result<(), Memory>
+    ensures { OnOk result (GoesOn problem.now budget growing.old growing.new) }
+{
+    let place = match problem.find_formula(formula) {
+        Some(Formula::And(parts)) => lacking_place(growing, parts.as_slice(), true),
+        Some(Formula::Or(parts)) => lacking_place(growing, parts.as_slice(), false),
+        _ => None,
+    };
+    match place {
+        Some(place) => growing.attempt(alloc, problem, budget, PlainStep::Unit(formula, place)),
+        None => Ok(()),
+    }
+}
+
+/// Tries the steps at a formula by which its parts get signs.
+fn spread_down(
+    growing: &mut Growing,
+    agenda: &Agenda,
+    alloc: Global,
+    problem: &Problem,
+    budget: u64,
+    signed: Signed,
+) -> Result<(), Memory>
+    ensures { OnOk result (GoesOn problem.now budget growing.old growing.new) }
+{
+    let formula = signed.formula;
+    match (problem.find_formula(formula), signed.sign) {
+        (Some(Formula::Member(_, _)), _) => {
+            growing.attempt(alloc, problem, budget, PlainStep::Atom(formula))
+        }
+        (Some(Formula::And(parts)), true) | (Some(Formula::Or(parts)), false) => {
+            spread_to_all(growing, alloc, problem, budget, signed, parts.as_slice())
+        }
+        (Some(Formula::And(_)), false) | (Some(Formula::Or(_)), true) => {
+            if agenda.lacking(formula) > 1 {
+                return Ok(());
+            }
+            spread_to_last(growing, alloc, problem, budget, formula)
+        }
+        (Some(Formula::Not(_)), _) => {
+            growing.attempt(alloc, problem, budget, PlainStep::Unit(formula, 1))
+        }
+        (Some(Formula::Iff(_, _)), _) => {
+            growing.attempt(alloc, problem, budget, PlainStep::Unit(formula, 1))?;
+            growing.attempt(alloc, problem, budget, PlainStep::Unit(formula, 2))
+        }
+        _ => Ok(()),
+    }
+}
+
+/// Tries the steps at a formula that a new sign of one of its parts calls for.
+fn spread_up(
+    growing: &mut Growing,
+    agenda: &mut Agenda,
+    alloc: Global,
+    problem: &Problem,
+    budget: u64,
+    parent: u32,
+    sign: bool,
+) -> Result<(), Memory>
+    ensures { OnOk result (GoesOn problem.now budget growing.old growing.new) }
+{
+    let own = PlainStep::Unit(parent, 0);
+    let counts = match problem.find_formula(parent) {
+        Some(Formula::And(_)) => sign,
+        Some(Formula::Or(_)) => !sign,
+        Some(Formula::Iff(_, _)) => {
+            growing.attempt(alloc, problem, budget, PlainStep::Unit(parent, 1))?;
+            growing.attempt(alloc, problem, budget, PlainStep::Unit(parent, 2))?;
+            return growing.attempt(alloc, problem, budget, own);
+        }
+        _ => return growing.attempt(alloc, problem, budget, own),
+    };
+    if !counts {
+        let due = Signed {
+            formula: parent,
+            sign,
+        };
+        return attempt_sign(growing, alloc, problem, budget, due, own);
+    }
+    agenda.count_part(parent);
+    spread_when_few(growing, agenda, alloc, problem, budget, parent)
+}
+
+/// Tries the steps at an `and` or an `or` of which at most one part is lacking.
+fn spread_when_few(
+    growing: &mut Growing,
+    agenda: &Agenda,
+    alloc: Global,
+    problem: &Problem,
+    budget: u64,
+    formula: u32,
+) -> Result<(), Memory>
+    ensures { OnOk result (GoesOn problem.now budget growing.old growing.new) }
+{
+    match agenda.lacking(formula) {
+        0 => growing.attempt(alloc, problem, budget, PlainStep::Unit(formula, 0)),
+        1 => spread_to_last(growing, alloc, problem, budget, formula),
+        _ => Ok(()),
+    }
+}
+
+/// Tries the steps at the formulas of which this one is a part.
+fn spread_to_parents(
+    growing: &mut Growing,
+    agenda: &mut Agenda,
+    alloc: Global,
+    problem: &Problem,
+    budget: u64,
+    signed: Signed,
+) -> Result<(), Memory>
+    ensures { OnOk result (GoesOn problem.now budget growing.old growing.new) }
+{
+    let count = agenda.count(signed.formula);
+    for index in 0..count {
+        let parent = agenda.parent(signed.formula, index);
+        spread_up(growing, agenda, alloc, problem, budget, parent, signed.sign)?;
+    }
+    Ok(())
+}
+
+/// Gives the constants `true` and `false` their signs.
+fn spread_constants(
+    growing: &mut Growing,
+    alloc: Global,
+    problem: &Problem,
+    budget: u64,
+) -> Result<(), Memory>
+    ensures { OnOk result (GoesOn problem.now budget growing.old growing.new) }
+{
+    for place in 0..problem.counts().formulas {
+        if let Formula::True | Formula::False = problem.formula(place + 1) {
+            growing.attempt(alloc, problem, budget, PlainStep::Unit(place + 1, 0))?;
+        }
+    }
+    Ok(())
+}
+
+/// Takes steps that conclude new facts, until the followed-up path has no more for which the agenda has a hint, a clash stands, or the budget is spent.
+pub(crate) fn spread(
+    growing: &mut Growing,
+    agenda: &mut Agenda,
+    alloc: Global,
+    problem: &Problem,
+    budget: u64,
+) -> Result<(), Memory>
+    ensures { OnOk result (GoesOn problem.now budget growing.old growing.new) }
+{
+    if agenda.is_fresh() {
+        spread_constants(growing, alloc, problem, budget)?;
+    }
+    for _ in 0..u64::MAX {
+        if growing.clash().is_some() {
+            return Ok(());
+        }
+        let Some(signed) = agenda.next(growing.path()) else {
+            return Ok(());
+        };
+        spread_down(growing, agenda, alloc, problem, budget, signed)?;
+        spread_to_parents(growing, agenda, alloc, problem, budget, signed)?;
+    }
+    Ok(())
+}

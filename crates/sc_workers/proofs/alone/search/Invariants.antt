@@ -1,0 +1,9 @@
+use Rattle.sc_workers.specs.Seats.{IsOf, IsIdle}
+use Rattle.sc_workers.proofs.alone.search.Given as goal
+
+-- no leaf is held
+abbrev pub invariant-loop-turn : goal.invariant-loop-turn
+invariant-loop-turn l = record {
+  about : IsOf l.problem l.budget l.tree;
+  idle : IsIdle l.tree;
+}
