@@ -3,12 +3,8 @@ use sc_io::{MemorySink, MemorySource};
 use std::alloc::Global;
 use std::test::Fail;
 
-const OUTSIDE: &str = "(error \"line 1: E8 outside the profile\")\n";
-
 const USAGE: &str =
     "usage: setcard solve [--workers N] [--budget N|full] | check | demo N [--size K]\n";
-
-const DECLARED: &str = "(declare-sort U 0)(declare-const x U)(declare-const A (Set U))";
 
 /// A run over memory, in pieces of at most so many bytes.
 #[derive(Clone, Copy)]
@@ -55,166 +51,257 @@ fn solve(alloc: Global, text: &[u8], most: usize) -> Result<(u8, usize, Vec<u8>,
     outcome(alloc, &case)
 }
 
-/// A script behind `DECLARED`.
-fn declared(alloc: Global, rest: &str) -> Result<Vec<u8>, Fail> {
-    let mut text = DECLARED.as_bytes().to_vec(alloc)?;
-    text.extend_from_slice(rest.as_bytes())?;
+#[test]
+fn scripts(rt: HostRuntime) -> Result<(), Fail> {
+    // The text, the status, the number of verdicts, and what is written.
+    let table = [
+        ("", 0u8, 0usize, ""),
+        (
+            "(echo \"a\") ; a comment\n(echo \"b\"\"c\")",
+            0,
+            0,
+            "\"a\"\n\"b\"\"c\"\n",
+        ),
+        (
+            "(set-logic QF_UF)(set-info :status sat)(check-sat)",
+            0,
+            1,
+            "sat\n",
+        ),
+        ("(assert false)(check-sat)(exit))) rubbish", 0, 1, "unsat\n"),
+        (
+            "(declare-const p Bool)(declare-fun q () Bool)(check-sat)\n(assert (or p q))(check-sat)\n(assert (not p))(assert (not q))(check-sat)",
+            0,
+            3,
+            "sat\nsat\nunsat\n",
+        ),
+        (
+            "(declare-sort U 0)(declare-const x U)(declare-const |A| (Set U))\n(assert (set.member x A))(check-sat)(assert (not (set.member x A)))(check-sat)",
+            0,
+            2,
+            "sat\nunsat\n",
+        ),
+        (
+            "(echo \"a\")\n(assert (",
+            1,
+            0,
+            "\"a\"\n(error \"line 2: E3 input ends inside a command\")\n",
+        ),
+        (
+            "(echo \"a\")\n\n)",
+            1,
+            0,
+            "\"a\"\n(error \"line 3: E2 unmatched parenthesis\")\n",
+        ),
+        (
+            "(check-sat)\n 007",
+            1,
+            1,
+            "sat\n(error \"line 2: E1 lexical fault\")\n",
+        ),
+        ("\nexit", 1, 0, "(error \"line 2: E5 malformed command\")\n"),
+        ("()", 1, 0, "(error \"line 1: E5 malformed command\")\n"),
+        ("(check)", 1, 0, "(error \"line 1: E4 unknown command\")\n"),
+        ("(|exit|)", 1, 0, "(error \"line 1: E4 unknown command\")\n"),
+        (
+            "(get-proof)",
+            1,
+            0,
+            "(error \"line 1: E8 outside the profile\")\n",
+        ),
+        (
+            "(declare-sort U 1)",
+            1,
+            0,
+            "(error \"line 1: E8 outside the profile\")\n",
+        ),
+        (
+            "(declare-sort set.card 1)",
+            1,
+            0,
+            "(error \"line 1: E9 name already declared or reserved\")\n",
+        ),
+        (
+            "(declare-sort U 0)\n(declare-const U V)",
+            1,
+            0,
+            "(error \"line 2: E9 name already declared or reserved\")\n",
+        ),
+        (
+            "(declare-const x V)",
+            1,
+            0,
+            "(error \"line 1: E6 unknown symbol\")\n",
+        ),
+        (
+            "(declare-fun f (Bool) Bool)",
+            1,
+            0,
+            "(error \"line 1: E8 outside the profile\")\n",
+        ),
+        (
+            "(declare-sort U 0)(declare-const x U)\n(assert\n x)",
+            1,
+            0,
+            "(error \"line 2: E7 wrong sort or number of arguments\")\n",
+        ),
+        (
+            "(check-sat)(assert p)(check-sat)",
+            1,
+            1,
+            "sat\n(error \"line 1: E6 unknown symbol\")\n",
+        ),
+    ];
+    for (text, status, verdicts, written) in table {
+        let (got, count, bytes, _) = solve(rt.alloc(), text.as_bytes(), 5)?;
+        assert_eq!(rt; got, status, "status of {text}");
+        assert_eq!(rt; bytes.as_slice(), written.as_bytes(), "output of {text}");
+        assert_eq!(rt; count, verdicts, "verdicts of {text}");
+    }
+    Ok(())
+}
+
+/// So many opening parentheses, and then as many closing ones.
+fn nested(alloc: Global, depth: usize) -> Result<Vec<u8>, Fail> {
+    let mut text = vec![in alloc; b'('; depth]?;
+    for _ in 0..depth {
+        text.push(b')')?;
+    }
     Ok(text)
 }
 
 #[test]
-fn texts(rt: HostRuntime) -> Result<(), Fail> {
-    let table = [
-        ("(declare-sort U 0)(check-sat)", 0u8, "sat\n"),
-        ("\t( declare-sort\r\nU 0 ) ( check-sat )", 0, "sat\n"),
-        ("", 1, OUTSIDE),
-        (" \n", 1, OUTSIDE),
-        ("(declare-sort U 0)", 1, OUTSIDE),
-        ("(declare-sort U 0)(check-sat)(check-sat)", 1, OUTSIDE),
-        ("(declare-sort U 0)(check-sat) ; done", 1, OUTSIDE),
-        ("(declare-sort U 0)(check-sat)\u{1}", 1, OUTSIDE),
-        ("(declare-sort U 00)(check-sat)", 1, OUTSIDE),
-        ("(declare-sort U 1)(check-sat)", 1, OUTSIDE),
-        ("(declare-sort |U| 0)(check-sat)", 1, OUTSIDE),
-        ("(declare-sort set.card 0)(check-sat)", 1, OUTSIDE),
-        ("(declare-sort let 0)(check-sat)", 1, OUTSIDE),
-        ("(declare-sort @U 0)(check-sat)", 1, OUTSIDE),
-        (
-            "(declare-sort U 0)(declare-const U U)(check-sat)",
-            1,
-            OUTSIDE,
-        ),
-        (
-            "(declare-sort U 0)(declare-const x V)(check-sat)",
-            1,
-            OUTSIDE,
-        ),
-        (
-            "(declare-sort U 0)\n(assert (set.member x A))\n",
-            1,
-            OUTSIDE,
-        ),
-    ];
-    for (text, status, written) in table {
-        let (got, verdicts, bytes, _) = solve(rt.alloc(), text.as_bytes(), 5)?;
-        assert_eq!(rt; got, status, "status of {text}");
-        assert_eq!(rt; bytes.as_slice(), written.as_bytes(), "output of {text}");
-        let checks = if status == 0 { 1 } else { 0 };
-        assert_eq!(rt; verdicts, checks, "verdicts of {text}");
-    }
-    Ok(())
-}
-
-#[test]
-fn memberships(rt: HostRuntime) -> Result<(), Fail> {
-    let table = [
-        ("(check-sat)", "sat\n"),
-        ("(assert (set.member x A))(check-sat)", "sat\n"),
-        ("(assert (not (set.member x A)))(check-sat)", "sat\n"),
-        (
-            "(assert (set.member x A))(assert (not (set.member x A)))(check-sat)",
-            "unsat\n",
-        ),
-        (
-            "(declare-const y U)(assert (set.member x A))(assert (not (set.member y A)))(check-sat)",
-            "sat\n",
-        ),
-        ("(declare-const x U)(check-sat)", OUTSIDE),
-        ("(assert (set.member A x))(check-sat)", OUTSIDE),
-        ("(assert (set.member x x))(check-sat)", OUTSIDE),
-        ("(assert (set.member x B))(check-sat)", OUTSIDE),
-        ("(assert (not (not (set.member x A))))(check-sat)", OUTSIDE),
-        (
-            "(assert (set.member x A) (set.member x A))(check-sat)",
-            OUTSIDE,
-        ),
-        (
-            "(assert (set.member x A))(declare-const y U)(check-sat)",
-            OUTSIDE,
-        ),
-    ];
-    for (rest, written) in table {
-        let (_, _, bytes, _) = solve(rt.alloc(), &declared(rt.alloc(), rest)?, 7)?;
-        assert_eq!(rt; bytes.as_slice(), written.as_bytes(), "output of {rest}");
-    }
-    Ok(())
-}
-
-#[test]
 fn limits(rt: HostRuntime) -> Result<(), Fail> {
-    // With the three declarations and the check, 996 assertions make 1,000 commands.
-    for (count, last, written) in [
-        (996, "(check-sat)", "sat\n"),
-        (995, "(assert (not (set.member x A)))(check-sat)", "unsat\n"),
-        (997, "(check-sat)", OUTSIDE),
-        (996, "(assert (not (set.member x A)))(check-sat)", OUTSIDE),
+    for (depth, written) in [
+        (1_000, "(error \"line 1: E4 unknown command\")\n"),
+        (1_001, "(error \"line 1: E16 limit 1000 passed\")\n"),
     ] {
-        let mut text = declared(rt.alloc(), "")?;
-        for _ in 0..count {
-            text.extend_from_slice(b"(assert (set.member x A))\n")?;
-        }
-        text.extend_from_slice(last.as_bytes())?;
-        let (_, _, bytes, _) = solve(rt.alloc(), &text, 4_096)?;
-        assert_eq!(rt; bytes.as_slice(), written.as_bytes(), "{count} assertions");
+        let (_, _, bytes, _) = solve(rt.alloc(), &nested(rt.alloc(), depth)?, 4_096)?;
+        assert_eq!(rt; bytes.as_slice(), written.as_bytes(), "depth {depth}");
     }
-    let blanks = vec![in rt.alloc(); b' '; 16_777_217]?;
+    // A script may have 16,777,216 bytes.
+    let blanks = vec![in rt.alloc(); b' '; 16_777_216]?;
+    let (status, _, bytes, _) = solve(rt.alloc(), &blanks, 4_096)?;
+    assert_eq!(rt; status, 0);
+    assert_eq!(rt; bytes.as_slice(), b"".as_slice());
+    // Of 16,777,217 bytes all are read, and no more.
+    let blanks = vec![in rt.alloc(); b' '; 16_777_218]?;
     let (status, _, bytes, reads) = solve(rt.alloc(), &blanks, 4_096)?;
     assert_eq!(rt; status, 1);
     assert_eq!(rt; reads, 4_097);
-    assert_eq!(rt; bytes.as_slice(), OUTSIDE.as_bytes());
+    assert_eq!(rt;
+        bytes.as_slice(),
+        b"(error \"line 1: E16 limit 16777216 passed\")\n".as_slice()
+    );
     Ok(())
 }
 
 #[test]
 fn faults(rt: HostRuntime) -> Result<(), Fail> {
-    let script =
-        b"(declare-sort U 0)\n(declare-const x U)\n(declare-const A (Set U))\n(assert (set.member x A))\n(check-sat)\n";
-    let table: [(&[u64], &[u64], u8, &str); 6] = [
-        (&[1], &[], 3, ""),
-        (&[3], &[], 3, ""),
-        (&[11], &[], 3, ""),
-        (&[], &[1], 4, ""),
-        (&[], &[2], 4, "sat"),
-        (&[100], &[100], 0, "sat\n"),
+    let script = b"(echo \"ab\")\n(check-sat)\n";
+    // The reads and the writes that fail, the status, the verdicts, and what is written.
+    let table: [(&[u64], &[u64], u8, usize, &str); 7] = [
+        (&[1], &[], 3, 0, ""),
+        (&[3], &[], 3, 0, ""),
+        (&[9], &[], 3, 0, ""),
+        (&[], &[1], 4, 0, ""),
+        (&[], &[2], 4, 0, "\"ab"),
+        (&[], &[4], 4, 1, "\"ab\"\nsat"),
+        (&[100], &[100], 0, 1, "\"ab\"\nsat\n"),
     ];
-    for (failing_reads, failing_writes, status, written) in table {
+    for (failing_reads, failing_writes, status, verdicts, written) in table {
         let case = Case {
-            words: &["solve"],
+            words: &["solve", "--budget", "7"],
             text: script,
             most: 3,
             failing_reads,
             failing_writes,
         };
-        let (got, _, bytes, _) = outcome(rt.alloc(), &case)?;
+        let (got, count, bytes, _) = outcome(rt.alloc(), &case)?;
         assert_eq!(rt; got, status);
+        assert_eq!(rt; count, verdicts);
         assert_eq!(rt; bytes.as_slice(), written.as_bytes());
     }
     Ok(())
 }
 
 #[test]
-fn refused_words(rt: HostRuntime) -> Result<(), Fail> {
-    let lists: [(&[&str], &[u64], u8, &str); 7] = [
+fn command_lines(rt: HostRuntime) -> Result<(), Fail> {
+    let lists: [(&[&str], &[u64], u8, &str); 18] = [
+        (&["solve"], &[], 0, "\"a\"\n"),
+        (&["solve", "--budget", "1"], &[], 0, "\"a\"\n"),
+        (&["solve", "--budget=1099511627776"], &[], 0, "\"a\"\n"),
+        (&["solve", "--budget=1099511627777"], &[], 2, USAGE),
+        (&["solve", "--budget", "0"], &[], 2, USAGE),
+        (&["solve", "--budget", "01"], &[], 2, USAGE),
+        (&["solve", "--budget", "+1"], &[], 2, USAGE),
+        (&["solve", "--budget", "-1"], &[], 2, USAGE),
+        (&["solve", "--budget", "full"], &[], 2, USAGE),
+        (&["solve", "--budget"], &[], 2, USAGE),
+        (&["solve", "--budget="], &[], 2, USAGE),
+        (&["--budget", "1", "solve"], &[], 2, USAGE),
         (&[], &[], 2, USAGE),
         (&["--help"], &[], 2, USAGE),
         (&["check"], &[], 2, USAGE),
         (&["solve", "solve"], &[], 2, USAGE),
-        (&["solve", "--budget", "5"], &[], 2, USAGE),
         (&["Solve"], &[], 2, USAGE),
         (&[], &[3], 4, "usage: set"),
     ];
     for (words, failing_writes, status, written) in lists {
         let case = Case {
             words,
-            text: b"",
+            text: b"(echo \"a\")",
             most: 5,
-            failing_reads: &[1],
+            failing_reads: &[],
             failing_writes,
         };
         let (got, _, bytes, reads) = outcome(rt.alloc(), &case)?;
         assert_eq!(rt; got, status);
-        assert_eq!(rt; reads, 0);
+        assert_eq!(rt; reads == 0, status != 0);
         assert_eq!(rt; bytes.as_slice(), written.as_bytes());
+    }
+    Ok(())
+}
+
+const ONE_OF_TWO: &str =
+    "(declare-const p Bool)(declare-const q Bool)(assert (or p q))(assert (not p))(assert (not q))(check-sat)";
+
+const PIGEONS: &str =
+    "(declare-const a1 Bool)(declare-const a2 Bool)(declare-const b1 Bool)(declare-const b2 Bool)(declare-const c1 Bool)(declare-const c2 Bool)
+(assert (and (or a1 a2) (or b1 b2) (or c1 c2)))
+(assert (not (or (and a1 b1) (and a1 c1) (and b1 c1) (and a2 b2) (and a2 c2) (and b2 c2))))
+(check-sat)";
+
+#[test]
+fn budgets(rt: HostRuntime) -> Result<(), Fail> {
+    // The steps on a branch, the text, and what is written.
+    let table = [
+        ("100", ONE_OF_TWO, "unsat\n"),
+        ("1", ONE_OF_TWO, "unknown\n"),
+        ("100", PIGEONS, "unsat\n"),
+        ("10", PIGEONS, "unknown\n"),
+        (
+            "100",
+            "(declare-const p Bool)(declare-const q Bool)(assert (xor p q true))(check-sat)(assert (distinct p q))(check-sat)",
+            "sat\nunsat\n",
+        ),
+        (
+            "1000",
+            "(declare-sort U 0)(declare-const x U)(declare-const A (Set U))(declare-const B (Set U))(assert (ite (set.member x A) (set.member x B) false))(check-sat)(assert (=> (set.member x B) (not (set.member x A))))(check-sat)",
+            "sat\nunsat\n",
+        ),
+    ];
+    for (steps, text, written) in table {
+        let case = Case {
+            words: &["solve", "--budget", steps],
+            text: text.as_bytes(),
+            most: 4_096,
+            failing_reads: &[],
+            failing_writes: &[],
+        };
+        let (status, _, bytes, _) = outcome(rt.alloc(), &case)?;
+        assert_eq!(rt; status, 0);
+        assert_eq!(rt; bytes.as_slice(), written.as_bytes(), "output of {text}");
     }
     Ok(())
 }

@@ -1,0 +1,6 @@
+pub mod Booleans
+pub mod Standing
+pub mod Doing
+pub mod Trees
+pub mod Whole
+pub mod Saying

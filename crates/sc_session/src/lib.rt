@@ -1,0 +1,27 @@
+//! The commands of a script of SMT-LIB 2.6, done one after the other.
+//!
+//! A [`Session`] holds what a script has declared and asserted so far. [`Session::do_command`] does
+//! a command and gives its response, [`Session::do_item`] a top item of a text. The commands that
+//! are done are those of [`Command`](sc_commands::Command).
+//!
+//! `turn` of `specs/Effects.antt` says what each item does, and `course` of `specs/Courses.antt`
+//! what the responses to a whole script are. That the formulas which are decided say what the
+//! script's own terms say, and that a just verdict is right for these terms, is
+//! [`sessions_say_the_same`]. Every text is exactly one script ([`scripts_are_read`]). The problems
+//! of check-sats are of truth values and memberships of constants alone ([`stocks_are_boolean`]).
+#![tactic(auto)]
+
+mod boolean;
+mod laws;
+mod response;
+mod session;
+mod verdicts;
+
+pub use boolean::stocks_are_boolean;
+pub use laws::{scripts_are_read, sessions_say_the_same};
+pub use response::{Response, fault_line, verdict_line};
+pub use session::Session;
+pub use verdicts::Verdicts;
+
+#[cfg(test)]
+mod tests;

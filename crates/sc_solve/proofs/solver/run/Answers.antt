@@ -1,0 +1,10 @@
+use Rattle.sc_solve.specs.Ends.{Moment, at_moment}
+use Rattle.sc_solve.proofs.Solving.{solves}
+use Rattle.sc_solve.proofs.solver.run.Goals as goal
+
+pub returns-in-Ok : goal.returns-in-Ok
+returns-in-Ok g c =
+    let before : Moment = at_moment (g.S.Source.moment c.args.source.now) (g.O.Sink.moment c.args.out.now) in
+    let after : Moment = at_moment (g.S.Source.moment c.gather.new.source) (g.O.Sink.moment c.respond-ending.new.out) in
+    let f = c.in-Ok.ensures in
+    solves c.scripts_are_read.ensures c.args.budget before after c.in-Ok.splitter f.0 f.1 f.2 c.respond-ending.result c.respond-ending.new.session.verdicts c.respond-ending.ensures
