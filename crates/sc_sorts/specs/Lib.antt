@@ -1,0 +1,4 @@
+pub mod Sorts
+pub mod Sorted
+pub mod Pure
+pub mod Walk
