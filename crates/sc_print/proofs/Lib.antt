@@ -1,9 +1,9 @@
 mod Lines
 mod Digits
-mod Bytes
+pub mod Bytes
 mod Values
-mod Tokens
-mod SymbolsBack
-mod NumbersBack
+pub mod Tokens
+pub mod SymbolsBack
+pub mod NumbersBack
 mod ValuesBack
 mod ErrorsBack

@@ -1,4 +1,5 @@
 pub mod Going
+pub mod Skipping
 pub mod Showing
 pub mod Reading
 pub mod Work
@@ -17,3 +18,4 @@ pub mod Meeting
 pub mod Stopping
 pub mod Closing
 pub mod Walked
+pub mod Cutting

@@ -79,3 +79,7 @@ pub record IsReader : Type 0 where
   -- It is answered only where all bytes are read.
   pub ends : (v : View) → (answer v).item ≡ item.More → (answer v).view.unread ≡ []
   pub works : (v : View) → Works (answer v).item v (answer v).view
+
+-- Where a text is longer than its limit, what follows it does not matter.
+abbrev pub AreCut : Type 0
+AreCut = (limit : ℕ) (text more : List ℕ) → limit < length text → items_of limit (text ++ more) ≡ items_of limit text

@@ -1,5 +1,10 @@
 -- What the code says of a pass over the bytes that a splitter holds.
-use Rattle.std.specs.Prelude.{◌≡◌, ℕ, ◌+◌, ◌-◌, ◌≤◌, true, List, take, drop, length}
+use Rattle.std.specs.Prelude.{◌≡◌, ℕ, ◌+◌, ◌-◌, ◌≤◌, Bool, true, ◌||◌, ◌==◌, not, if◌then◌else◌, List, take, drop, length}
+use Rattle.sc_text.specs.declared.mode.Mode.{Mode}
+use Rattle.sc_text.specs.declared.mode.Mode.TheVariants as mode
+use Rattle.sc_text.specs.Bytes.{is_break}
+use Rattle.sc_text.specs.Modes.{is_start, stays}
+use Rattle.sc_sexpr.specs.declared.state.State.{State}
 use Rattle.sc_sexpr.specs.declared.scan.Pass.{Pass}
 use Rattle.sc_sexpr.specs.declared.scan.Found.{Found}
 use Rattle.sc_sexpr.specs.declared.scan.Found.TheVariants as found
@@ -52,3 +57,25 @@ scan_from bytes p = scan p.state (text_of bytes p) p.room (drop p.at bytes)
 -- the same place where so many bytes are gone from the front
 abbrev pub moved : Pass → ℕ → Pass
 moved p count = record p { from = p.from - count; at = p.at - count }
+
+-- white space but for line feeds
+abbrev pub is_blank : ℕ → Bool
+is_blank b = b == 32 || b == 9 || b == 13
+
+abbrev pub no_break : ℕ → Bool
+no_break b = not (is_break b)
+
+-- the bytes that leave a state as it is, line feeds aside
+abbrev pub unmoved : State → ℕ → Bool
+unmoved s = if s.comment then no_break else if is_start s.mode then is_blank else stays s.mode
+
+-- the same state behind so many more bytes
+abbrev pub further : Bool → Pass → ℕ → Pass
+further idle p n = record p { from = if idle then p.at + n else p.from; at = p.at + n; room = p.room - n }
+
+-- a pass goes over bytes that change nothing but its place
+pub record Skips (bytes : List ℕ) (old new : Pass) : Type 0 where
+  pub same : scan_from bytes old ≡ scan_from bytes new
+  pub resting : IsResting new
+  pub follows : Follows bytes old new
+  pub order : old.at ≤ new.at

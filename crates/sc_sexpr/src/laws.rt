@@ -1,6 +1,6 @@
 //! Laws of the definitions.
 
-ghost use Rattle.sc_sexpr.specs.Laws.{IsReader, AreItems};
+ghost use Rattle.sc_sexpr.specs.Laws.{IsReader, AreItems, AreCut};
 ghost use Rattle.sc_sexpr.specs.Trees.{AreTold};
 ghost use Rattle.sc_sexpr.specs.Walk.{AreWalked};
 
@@ -25,4 +25,9 @@ pub fn trees_are_told()
 /// the end, or the first byte past the limit.
 pub fn items_are_walked()
     ensures { AreWalked }
+{}
+
+/// Where a text is longer than its limit, its items and its end are the same whatever follows it.
+pub fn long_texts_are_cut()
+    ensures { AreCut }
 {}

@@ -19,7 +19,9 @@ mod state;
 mod tree;
 
 pub use item::{Fault, Item};
-pub use laws::{items_are_walked, splitters_give_items, splitters_read, trees_are_told};
+pub use laws::{
+    items_are_walked, long_texts_are_cut, splitters_give_items, splitters_read, trees_are_told,
+};
 pub use splitter::{Memory, Splitter};
 pub use tree::{Items, Tree, read_tree};
 

@@ -1,7 +1,7 @@
 //! A pass over the bytes that a splitter holds.
 
-ghost use Rattle.std.specs.Prelude.{◌≡◌, ◌+◌, ◌-◌, ◌<◌, ◌≤◌, ◌^◌, ℕ, List, false, length, slice_index};
-ghost use Rattle.sc_sexpr.specs.Passes.{IsPlaced, IsResting, Follows, Finds, ends_before, found_past, scan_from, text_of, moved};
+ghost use Rattle.std.specs.Prelude.{◌≡◌, ◌+◌, ◌-◌, ◌<◌, ◌≤◌, ◌^◌, ℕ, List, false, if◌then◌else◌, length, slice_index};
+ghost use Rattle.sc_sexpr.specs.Passes.{IsPlaced, IsResting, Finds, Skips, ends_before, found_past, scan_from, text_of, moved};
 ghost use Rattle.sc_sexpr.specs.Moves.{is_idle, move_of};
 ghost use Rattle.sc_sexpr.specs.Scans.{text_after};
 
@@ -34,6 +34,7 @@ pub(crate) enum Found {
 
 impl Pass {
     /// The item at hand ends here.
+    #[inline(always)]
     fn ended(self) -> Found
         ensures { result ≡ ends_before self }
     {
@@ -58,6 +59,7 @@ impl Pass {
     }
 
     /// The same place where so many bytes are gone from the front.
+    #[inline(always)]
     pub(crate) fn moved(self, count: usize) -> Pass
         requires at { count ≤ self.at }
         ensures { result ≡ moved self count }
@@ -70,6 +72,7 @@ impl Pass {
     }
 
     /// Behind the next byte.
+    #[inline(always)]
     fn passed(self, state: State) -> Pass
         requires order { self.from ≤ self.at }
         requires within { self.at + 1 < 2 ^ 64 }
@@ -93,6 +96,47 @@ impl Pass {
     }
 }
 
+/// A count, or as many as there is room for.
+#[inline(always)]
+fn lesser(room: u64, count: usize) -> usize
+    ensures room { result ≤ room }
+    ensures count { result ≤ count }
+{
+    if count as u64 <= room {
+        count
+    } else {
+        room as usize
+    }
+}
+
+impl Pass {
+    /// Where the item at hand begins, in the same state before another byte.
+    #[inline(always)]
+    fn from_before(self, at: usize) -> usize
+        ensures { result ≡ (if is_idle self.state then at else self.from) }
+    {
+        if self.state.is_idle() { at } else { self.from }
+    }
+
+    /// Behind the bytes that leave the state as it is, or as many of them as may be read.
+    #[inline(always)]
+    fn skipped(self, bytes: &[u8]) -> Pass
+        requires placed { IsPlaced bytes.now self }
+        requires rests { IsResting self }
+        ensures { Skips bytes.now self result }
+    {
+        let (_, rest) = bytes.split_at(self.at);
+        let count = lesser(self.room, self.state.span(rest));
+        let at = self.at + count;
+        Pass {
+            state: self.state,
+            from: self.from_before(at),
+            at,
+            room: self.room - count as u64,
+        }
+    }
+}
+
 /// The first item from here on.
 pub(crate) fn scan(pass: Pass, bytes: &[u8]) -> Found
     requires placed { IsPlaced bytes.now pass }
@@ -107,7 +151,10 @@ pub(crate) fn scan(pass: Pass, bytes: &[u8]) -> Found
         }
         let state = pass.state;
         match state.step(bytes[pass.at]) {
-            Move::Go(next) => pass = pass.passed(next),
+            Move::Go(next) => {
+                let behind = pass.passed(next);
+                pass = behind.skipped(bytes);
+            }
             Move::Done(next) => {
                 return Found::Top(
                     Pass {

@@ -1,7 +1,9 @@
 -- The names that a script may not give. All are without the bars of a quoted symbol.
-use Rattle.std.specs.Prelude.{ℕ, Bool, false, ◌||◌, ◌&&◌, ◌==◌, not, List, [], ◌∷◌, codes}
+use Rattle.std.specs.Prelude.{ℕ, ◌-◌, Bool, false, ◌||◌, ◌&&◌, ◌==◌, not, if◌then◌else◌, List, [], ◌∷◌, codes, length, take, drop, Option, Some, None}
 use Rattle.std.specs.List.{list_any}
 use Rattle.std.specs.Str.{bytes_eq}
+use Rattle.sc_text.specs.declared.token.Kind.{Kind}
+use Rattle.sc_text.specs.declared.token.Kind.TheVariants as kind
 
 abbrev pub is_among : List ℕ → List (List ℕ) → Bool
 is_among name names = list_any (λ w. bytes_eq w name) names
@@ -62,3 +64,13 @@ is_free_in_bars name = not (is_own name) && not (is_built_in name)
 -- what may be declared where it stands without bars
 unfoldable pub is_free : List ℕ → Bool
 is_free name = not (is_reserved name) && is_free_in_bars name
+
+-- what stands between the first byte and the last one
+abbrev pub between : List ℕ → List ℕ
+between text = drop 1 (take (length text - 1) text)
+
+-- The name that a token gives as a symbol. A reserved word is a symbol only between bars.
+abbrev pub symbol_name : Kind → List ℕ → Option (List ℕ)
+symbol_name kind.Word text = if is_reserved text then None else Some text
+symbol_name kind.Quoted text = Some (between text)
+symbol_name k text = None

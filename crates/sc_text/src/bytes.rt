@@ -4,6 +4,7 @@ ghost use Rattle.std.specs.Prelude.{◌≡◌, ◌≤◌, length};
 ghost use Rattle.sc_text.specs.Bytes.{is_white, is_break, is_digit, is_hex_digit, is_binary_digit, is_symbol_byte, line_feeds};
 
 /// Whether the byte is white space: a space, a tab, a line feed or a carriage return.
+#[inline(always)]
 pub fn is_white(byte: u8) -> bool
     ensures { result ≡ is_white byte }
 {
@@ -11,24 +12,28 @@ pub fn is_white(byte: u8) -> bool
 }
 
 /// Whether the byte ends a comment: a line feed or a carriage return.
+#[inline(always)]
 pub fn is_break(byte: u8) -> bool
     ensures { result ≡ is_break byte }
 {
     matches!(byte, b'\n' | b'\r')
 }
 
+#[inline(always)]
 pub(crate) fn is_digit(byte: u8) -> bool
     ensures { result ≡ is_digit byte }
 {
     byte.is_ascii_digit()
 }
 
+#[inline(always)]
 pub(crate) fn is_hex_digit(byte: u8) -> bool
     ensures { result ≡ is_hex_digit byte }
 {
     matches!(byte, b'0'..=b'9' | b'A'..=b'F' | b'a'..=b'f')
 }
 
+#[inline(always)]
 pub(crate) fn is_binary_digit(byte: u8) -> bool
     ensures { result ≡ is_binary_digit byte }
 {
@@ -37,11 +42,31 @@ pub(crate) fn is_binary_digit(byte: u8) -> bool
 
 /// Whether a simple symbol of SMT-LIB 2.6 may hold the byte: a letter, a digit or one of
 /// `~ ! @ $ % ^ & * _ - + = < > . ? /`.
+#[inline(always)]
 #[tactic(auto, unfolding(crate::specs::Bytes::is_symbol_byte))]
 pub fn is_symbol_byte(byte: u8) -> bool
     ensures { result ≡ is_symbol_byte byte }
 {
-    byte.is_ascii_alphanumeric() || b"~!@$%^&*_-+=<>.?/".contains(&byte)
+    matches!(byte, b'A'..=b'Z' | b'a'..=b'z' | b'0'..=b'9')
+        || matches!(
+            byte,
+            b'~' | b'!'
+                | b'@'
+                | b'$'
+                | b'%'
+                | b'^'
+                | b'&'
+                | b'*'
+                | b'_'
+                | b'-'
+                | b'+'
+                | b'='
+                | b'<'
+                | b'>'
+                | b'.'
+                | b'?'
+                | b'/'
+        )
 }
 
 /// How many line feeds there are.

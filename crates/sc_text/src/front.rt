@@ -1,7 +1,8 @@
 //! What stands at the front of a text.
 
-ghost use Rattle.std.specs.Prelude.{◌≡◌, ◌≤◌, length, true, false};
-ghost use Rattle.sc_text.specs.Modes.{run};
+ghost use Rattle.std.specs.Prelude.{◌≡◌, ◌+◌, ◌≤◌, length, drop, true, false};
+ghost use Rattle.std.specs.List.{prefix_len};
+ghost use Rattle.sc_text.specs.Modes.{run, stays};
 ghost use Rattle.sc_text.specs.Fronts.{gap_step, gap, front_of, front_at, run_fits, fits};
 
 use crate::bytes::{is_break, is_white};
@@ -42,6 +43,7 @@ pub enum Front {
 }
 
 /// Whether a byte belongs to the gap, and if so, whether a comment could go on behind it.
+#[inline(always)]
 fn gap_step(comment: bool, byte: u8) -> Option<bool>
     ensures { result ≡ gap_step comment byte }
 {
@@ -72,15 +74,32 @@ pub(crate) fn gap_at(bytes: &[u8]) -> Gap
     }
 }
 
+/// Behind the bytes from a place on that leave a mode as it is.
+#[inline(always)]
+fn behind_span(mode: Mode, bytes: &[u8], from: usize) -> usize
+    requires { from ≤ length bytes.now }
+    ensures behind { result ≡ from + prefix_len (stays mode) (drop from bytes.now) }
+    ensures order { from ≤ result }
+    ensures within { result ≤ length bytes.now }
+{
+    let (_, rest) = bytes.split_at(from);
+    from + mode.span(rest)
+}
+
 /// The token that begins with the first byte.
+#[inline(always)]
 pub(crate) fn run_at(bytes: &[u8]) -> Run
     ensures run { result ≡ run Mode.Start bytes.now }
     ensures within { run_fits (length bytes.now) result }
 {
     let mut mode = Mode::Start;
-    for (i, byte) in bytes.iter().enumerate() {
-        match mode.step(*byte) {
-            Step::Go(next) => mode = next,
+    let mut i = 0;
+    while i < bytes.len() {
+        match mode.step(bytes[i]) {
+            Step::Go(next) => {
+                mode = next;
+                i = behind_span(next, bytes, i + 1);
+            }
             Step::Close(kind) => return Run::Takes(i + 1, kind),
             Step::Stop(kind) => return Run::Takes(i, kind),
             Step::Fault => return Run::Fails,

@@ -2,9 +2,10 @@
 //!
 //! A reader of pieces keeps a [`Mode`] between them, so that no byte of a token is stepped twice.
 
-ghost use Rattle.std.specs.Prelude.{◌≡◌, ◌&&◌, IfSome};
+ghost use Rattle.std.specs.Prelude.{◌≡◌, ◌≤◌, ◌&&◌, length, IfSome};
+ghost use Rattle.std.specs.List.{prefix_len};
 ghost use Rattle.sc_text.specs.Bytes.{is_symbol_byte};
-ghost use Rattle.sc_text.specs.Modes.{IsBegun, GoesOn, is_start, is_unclosed, first_mode, next_mode, closing, whole, is_number, step_of, stopped};
+ghost use Rattle.sc_text.specs.Modes.{IsBegun, GoesOn, is_start, is_unclosed, first_mode, next_mode, closing, whole, is_number, step_of, stopped, is_literal_byte, is_quoted_byte, stays};
 
 use crate::bytes::{is_binary_digit, is_digit, is_hex_digit, is_symbol_byte};
 use crate::token::Kind;
@@ -59,8 +60,21 @@ pub enum Step {
     Fault,
 }
 
+fn is_literal_byte(byte: u8) -> bool
+    ensures { result ≡ is_literal_byte byte }
+{
+    !matches!(byte, b'"' | b'\n')
+}
+
+fn is_quoted_byte(byte: u8) -> bool
+    ensures { result ≡ is_quoted_byte byte }
+{
+    !matches!(byte, b'|' | b'\\' | b'\n')
+}
+
 impl Mode {
     /// Whether nothing has been read.
+    #[inline(always)]
     pub fn is_start(self) -> bool
         ensures { result ≡ is_start self }
     {
@@ -68,12 +82,14 @@ impl Mode {
     }
 
     /// Whether a literal or a quoted symbol has begun and isn't closed, so that no text may end here.
+    #[inline(always)]
     pub fn is_unclosed(self) -> bool
         ensures { result ≡ is_unclosed self }
     {
         matches!(self, Mode::Literal | Mode::Quoted)
     }
 
+    #[inline(always)]
     fn first(byte: u8) -> Option<Mode>
         ensures value { result ≡ first_mode byte }
         ensures begun { IfSome result IsBegun }
@@ -90,6 +106,7 @@ impl Mode {
         }
     }
 
+    #[inline(always)]
     fn next(self, byte: u8) -> Option<Mode>
         ensures value { result ≡ next_mode self byte }
         ensures begun { IfSome result IsBegun }
@@ -121,6 +138,7 @@ impl Mode {
         }
     }
 
+    #[inline(always)]
     fn closing(self, byte: u8) -> Option<Kind>
         ensures { result ≡ closing self byte }
     {
@@ -133,6 +151,7 @@ impl Mode {
     }
 
     /// The kind of token that has been read, where it is one as it stands.
+    #[inline(always)]
     pub fn whole(self) -> Option<Kind>
         ensures { result ≡ whole self }
     {
@@ -146,6 +165,7 @@ impl Mode {
         }
     }
 
+    #[inline(always)]
     fn is_number(self) -> bool
         ensures { result ≡ is_number self }
     {
@@ -155,6 +175,7 @@ impl Mode {
         )
     }
 
+    #[inline(always)]
     fn stopped(self, byte: u8) -> Step
         ensures begun { GoesOn result }
         ensures value { result ≡ stopped (is_number self && is_symbol_byte byte) (whole self) }
@@ -167,6 +188,7 @@ impl Mode {
 
     /// What the byte does behind what has been read, by the lexical rules of SMT-LIB 2.6.
     #[tactic(auto, unfolding(crate::specs::Modes::step_of))]
+    #[inline(always)]
     pub fn step(self, byte: u8) -> Step
         ensures value { result ≡ step_of self byte }
         ensures begun { GoesOn result }
@@ -177,6 +199,24 @@ impl Mode {
         match self.next(byte) {
             Some(mode) => Step::Go(mode),
             None => self.stopped(byte),
+        }
+    }
+
+    /// How many of the first bytes leave what has been read of a token as it is. They hold no
+    /// line feed: symbol bytes in a simple symbol or a keyword, and in a literal or a quoted
+    /// symbol what neither ends nor escapes it.
+    #[inline(always)]
+    pub fn span(self, bytes: &[u8]) -> usize
+        ensures count { result ≡ prefix_len (stays self) bytes.now }
+        ensures within { result ≤ length bytes.now }
+    {
+        match self {
+            Mode::Symbol | Mode::Keyword => {
+                bytes.iter().take_while(|b| is_symbol_byte(**b)).count()
+            }
+            Mode::Literal => bytes.iter().take_while(|b| is_literal_byte(**b)).count(),
+            Mode::Quoted => bytes.iter().take_while(|b| is_quoted_byte(**b)).count(),
+            _ => 0,
         }
     }
 }

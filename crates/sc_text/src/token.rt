@@ -1,5 +1,10 @@
 //! Tokens.
 
+ghost use Rattle.std.specs.Prelude.{◌≡◌, option_copied};
+ghost use Rattle.sc_text.specs.Names as names;
+
+use crate::names::is_reserved;
+
 /// What a token is.
 #[derive(Clone, Copy, Debug, PartialEq, Eq)]
 pub enum Kind {
@@ -32,4 +37,29 @@ pub struct Token<'a> {
     pub start: u64,
     /// The line of its first byte.
     pub line: u64,
+}
+
+/// What stands between the first byte and the last one.
+fn between(text: &[u8]) -> &[u8]
+    ensures { result.now ≡ names.between text.now }
+{
+    match text {
+        [_, inner @ .., _] => inner,
+        _ => &[],
+    }
+}
+
+impl<'a> Token<'a> {
+    /// The name that the token gives as a symbol, without bars: that of a simple symbol, or what
+    /// stands between the bars of a quoted one. `None` where it is no symbol: a reserved word is
+    /// one only between bars.
+    pub fn symbol_name(self) -> Option<&'a [u8]>
+        ensures { option_copied result ≡ names.symbol_name self.entry.kind self.entry.text.now }
+    {
+        match self.kind {
+            Kind::Word if !is_reserved(self.text) => Some(self.text),
+            Kind::Quoted => Some(between(self.text)),
+            _ => None,
+        }
+    }
 }

@@ -4,6 +4,7 @@ use Rattle.sc_sexpr.specs.declared.scan.Found.{Found}
 use Rattle.sc_sexpr.specs.Moves.{IsAhead}
 use Rattle.sc_sexpr.specs.Passes.{Finds, scan_from}
 use Rattle.sc_sexpr.proofs.Going.{scan_goes, scan_done, scan_before, scan_fails, scan_waits, still_grows, ended_follows, past_finds}
+use Rattle.sc_sexpr.proofs.Skipping.{follows_on}
 use Rattle.sc_sexpr.proofs.scan.scan.Goals as goal
 
 pub returns-then-pass-eq0 : goal.returns-then-pass-eq0
@@ -14,19 +15,19 @@ returns-then-pass-eq0 c =
 pub loop-pass-preserved : goal.loop-pass-preserved
 loop-pass-preserved c =
     let some : 0 < c.loop-pass.pass.room = omega arith in
-    let line : c.passed-pass.result.state.line ≡ c.in-Go.next.line = ap (λ (s : State). s.line) c.passed-pass.ensures.state in
+    let line : c.passed-behind.result.state.line ≡ c.in-Go.next.line = ap (λ (s : State). s.line) c.passed-behind.ensures.state in
     let next : c.in-Go.next.line ≤ c.loop-pass.pass.state.line + 1 = c.in-Go.ensures.keeps.0 in
-    let within : c.passed-pass.result.at ≤ length c.args.bytes.now = omega arith in
+    let within : c.passed-behind.result.at ≤ length c.args.bytes.now = omega arith in
     record {
-      same = c.loop-pass.invariant.same ∙ scan_goes c.args.bytes.now c.loop-pass.pass c.passed-pass.result c.in-Go.next c.loop-pass-test.true some (sym c.step.ensures.value ∙ c.in-Go.is) c.passed-pass.ensures.state (c.passed-pass.ensures.text c.args.bytes.now c.loop-pass-test.true) c.passed-pass.ensures.room c.passed-pass.ensures.at;
-      rests = c.passed-pass.ensures.rests;
-      follows = record {
-        placed = record { order = c.passed-pass.ensures.order; within = within };
-        grows = still_grows c.args.pass c.loop-pass.pass c.passed-pass.result c.in-Go.next c.loop-pass.invariant.follows.grows c.loop-pass.invariant.rests c.in-Go.ensures.keeps.1 c.passed-pass.ensures.grows c.passed-pass.ensures.at;
+      same = c.loop-pass.invariant.same ∙ scan_goes c.args.bytes.now c.loop-pass.pass c.passed-behind.result c.in-Go.next c.loop-pass-test.true some (sym c.step.ensures.value ∙ c.in-Go.is) c.passed-behind.ensures.state (c.passed-behind.ensures.text c.args.bytes.now c.loop-pass-test.true) c.passed-behind.ensures.room c.passed-behind.ensures.at ∙ c.skipped-pass.ensures.same;
+      rests = c.skipped-pass.ensures.resting;
+      follows = follows_on c.args.bytes.now c.args.pass c.passed-behind.result c.skipped-pass.result (record {
+        placed = record { order = c.passed-behind.ensures.order; within = within };
+        grows = still_grows c.args.pass c.loop-pass.pass c.passed-behind.result c.in-Go.next c.loop-pass.invariant.follows.grows c.loop-pass.invariant.rests c.in-Go.ensures.keeps.1 c.passed-behind.ensures.grows c.passed-behind.ensures.at;
         lines = omega arith;
-        ahead = λ h. subst (λ (s : State). IsAhead s) (sym c.passed-pass.ensures.state) (c.in-Go.ensures.keeps.2 (c.loop-pass.invariant.follows.ahead h));
-        span = omega (arith, c.passed-pass.ensures.span, c.loop-pass.invariant.follows.span);
-      };
+        ahead = λ h. subst (λ (s : State). IsAhead s) (sym c.passed-behind.ensures.state) (c.in-Go.ensures.keeps.2 (c.loop-pass.invariant.follows.ahead h));
+        span = omega (arith, c.passed-behind.ensures.span, c.loop-pass.invariant.follows.span);
+      }) c.skipped-pass.ensures.follows;
     }
 
 pub returns-in-Done : goal.returns-in-Done
