@@ -12,7 +12,7 @@ use Rattle.sc_stack.specs.declared.stack.Named.TheVariants as named
 use Rattle.sc_stack.specs.Names.{Names, look_up, IsNumber, IsSort}
 use Rattle.sc_elab.specs.Words.{symbol_name}
 use Rattle.sc_elab.specs.Sorts.{declared_sort, named_sort, named_sets, is_set_word, sets_of, sets_of_parts, token_sort, sort_of}
-use Rattle.sc_elab.specs.Heads.{is_end}
+use Rattle.sc_elab.specs.Counts.{is_end}
 
 -- sorts that are found have numbers
 abbrev pub SortsHaveNumbers : Type 0

@@ -1,14 +1,18 @@
 -- How banks grow, and what is known of a call that is made of others.
 use Rattle.std.proofs.Common.{◌≡◌, ℕ, zero, suc, Bool, true, false, if◌then◌else◌, List, [], ◌∷◌, ◌++◌, Option, Some, None, slice_get, refl, sym, ap, ◌∙◌, subst, append_assoc, append-nil}
 use Rattle.std.specs.Prelude.{Result, Ok, Err}
+use Rattle.std.specs.List.{AllByRecursion}
 use Rattle.sc_base.specs.Numbered.{item_at}
 use Rattle.sc_terms.specs.declared.nodes.Node.{Node}
 use Rattle.sc_terms.specs.declared.nodes.Sort.{Sort}
+use Rattle.sc_terms.specs.declared.nodes.Sort.TheVariants as sorts
 use Rattle.sc_terms.specs.Bank.{HasSorts, NodeHasSorts, IsFormulaOf, IsSetOf, IsElementOf, is_formula, is_set, is_element, has_node, with_node}
 use Rattle.sc_elab.specs.declared.error.ElabError.{ElabError}
 use Rattle.sc_elab.specs.declared.error.ElabError.TheVariants as errors
 use Rattle.sc_elab.specs.States.{Outcome, Done, bind}
-use Rattle.sc_elab.specs.Growth.{Grown, Gives, Builds, AreFormulas}
+use Rattle.sc_elab.specs.Growth.{Grown, Gives, Builds, AreFormulas, IsOfSort, AreOfSort, Makes}
+use Rattle.sc_elab.specs.declared.words.Operator.{Operator}
+use Rattle.sc_elab.specs.Builds.{build}
 
 pub same_grown : (known : List Sort) (bank : List Node) → Grown known bank bank
 same_grown known bank = record { begins = ([], sym (append-nil bank)); has_sorts = λ h. h }
@@ -53,9 +57,26 @@ still_set known a b n g h = subst (λ bank. IsSetOf bank n) (sym g.begins.1) (ke
 pub still_element : (known : List Sort) (a b : List Node) (n : ℕ) → Grown known a b → IsElementOf a n → IsElementOf b n
 still_element known a b n g h = subst (λ bank. IsElementOf bank n) (sym g.begins.1) (kept_test is_element a g.begins.0 n refl h)
 
+pub still_sort : (sort : Sort) (known : List Sort) (a b : List Node) (n : ℕ) → Grown known a b → IsOfSort a sort n → IsOfSort b sort n
+still_sort sorts.Bool known a b n g h = still_formula known a b n g h
+still_sort sorts.Int known a b n g h = still_element known a b n g h
+still_sort (sorts.Named k) known a b n g h = still_element known a b n g h
+still_sort sorts.SetInt known a b n g h = still_set known a b n g h
+still_sort (sorts.SetNamed k) known a b n g h = still_set known a b n g h
+
+-- what is known of a node stays as the bank grows
+abbrev pub Lasts : (List Node → ℕ → Type 0) → Type 0
+Lasts Is = (known : List Sort) (a b : List Node) (n : ℕ) → Grown known a b → Is a n → Is b n
+
+pub still_all : (Is : List Node → ℕ → Type 0) → Lasts Is → (known : List Sort) (a b : List Node) (ns : List ℕ) → Grown known a b → AllByRecursion (Is a) ns → AllByRecursion (Is b) ns
+still_all Is lasts known a b [] g h = tt
+still_all Is lasts known a b (n ∷ ns) g h = (lasts known a b n g h.0, still_all Is lasts known a b ns g h.1)
+
 pub still_formulas : (known : List Sort) (a b : List Node) (fs : List ℕ) → Grown known a b → AreFormulas a fs → AreFormulas b fs
-still_formulas known a b [] g h = tt
-still_formulas known a b (f ∷ fs) g h = (still_formula known a b f g h.0, still_formulas known a b fs g h.1)
+still_formulas known a b fs g h = still_all IsFormulaOf still_formula known a b fs g h
+
+pub still_sorts : (sort : Sort) (known : List Sort) (a b : List Node) (ns : List ℕ) → Grown known a b → AreOfSort a sort ns → AreOfSort b sort ns
+still_sorts sort known a b ns g h = still_all (λ bank n. IsOfSort bank sort n) (still_sort sort) known a b ns g h
 
 -- where the first part stops, the whole stops
 pub stops : {A B : Type 0} (known : List Sort) (Is : List Node → A → Type 0) (Are : List Node → B → Type 0) (o : Outcome A) (k : A → List Node → Outcome B) (e : ElabError) (old new : List Node) → Gives known Is o old (Err e) new → Gives known Are (bind o k) old (Err e) new
@@ -100,3 +121,8 @@ module _ {A B : Type 0} {known : List Sort} {Is : List Node → A → Type 0} {A
 
 pub gives_done : {A : Type 0} {known : List Sort} (Is : List Node → A → Type 0) (a : A) (bank : List Node) → Is bank a → Gives known Is (Done a bank) bank (Ok a) bank
 gives_done {A} {known} Is a bank h = record { exact = refl; stands = h; grown = same_grown known bank }
+
+-- ---- one operator
+pub of_operator : (operator o : Operator) (sort : Sort) (args ns : List ℕ) {bank : List Node} {r : Result ℕ ElabError} {new : List Node} → operator ≡ o → args ≡ ns → Builds (Makes o) (build o sort ns bank) bank r new → Builds (Makes operator) (build operator sort args bank) bank r new
+of_operator operator o sort args ns {bank} {r} {new} e f h =
+    subst (λ p. Builds (Makes p) (build p sort args bank) bank r new) (sym e) (subst (λ l. Builds (Makes o) (build o sort l bank) bank r new) (sym f) h)

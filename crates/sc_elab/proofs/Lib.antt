@@ -5,7 +5,11 @@ mod Arguments
 mod Terms
 mod Standing
 mod OperatorLaws
+mod SetLaws
 mod Worths
 mod DeclaredSorts
 mod KnownSorts
-mod Booleans
+mod Purely
+mod SortedBanks
+mod SortedNodes
+mod SortedTerms

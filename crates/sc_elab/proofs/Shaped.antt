@@ -4,7 +4,8 @@ use Rattle.std.specs.List.{list_all}
 use Rattle.sc_sexpr.specs.declared.tree.Tree.{Tree, List as Nested, the_lemmas}
 use Rattle.sc_sexpr.specs.declared.tree.Items.{Items}
 use Rattle.sc_sexpr.specs.Shapes.{Listed, shape, shapes_of}
-use Rattle.sc_elab.specs.Heads.{is_binding, are_bindings, count, is_end}
+use Rattle.sc_elab.specs.Counts.{count, is_end}
+use Rattle.sc_elab.specs.Heads.{is_binding, are_bindings}
 
 pub listed : (items : Items) → shape (Nested items) ≡ Listed items.line (shapes_of (map shape items.trees.items))
 listed items = search (rules, the_lemmas)

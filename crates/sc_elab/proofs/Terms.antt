@@ -15,7 +15,7 @@ use Rattle.sc_elab.specs.declared.meant.Meant.{Meant}
 use Rattle.sc_elab.specs.States.{Outcome, Done, Fault, bind, Answers}
 use Rattle.sc_elab.specs.Growth.{Grown, Gives, IsOfSort, IsMeant, AreMeant}
 use Rattle.sc_elab.specs.Elab as spec
-use Rattle.sc_elab.proofs.Growing.{same_grown, grown_twice, still_formula, still_set, still_element}
+use Rattle.sc_elab.proofs.Growing.{same_grown, grown_twice, still_sort}
 
 pub declared_is : (bank : List Node) (sort : Sort) (n : ℕ) → IsDeclaredSort sort → IsElementOf bank n → IsOfSort bank sort n
 declared_is bank (sorts.Named k) n d h = h
@@ -31,16 +31,9 @@ set_is bank sorts.Bool n d h = absurd d
 set_is bank sorts.Int n d h = absurd d
 set_is bank (sorts.Named k) n d h = absurd d
 
-still_sort : (known : List Sort) (a b : List Node) (sort : Sort) (n : ℕ) → Grown known a b → IsOfSort a sort n → IsOfSort b sort n
-still_sort known a b sorts.Bool n g h = still_formula known a b n g h
-still_sort known a b sorts.Int n g h = still_element known a b n g h
-still_sort known a b (sorts.Named k) n g h = still_element known a b n g h
-still_sort known a b sorts.SetInt n g h = still_set known a b n g h
-still_sort known a b (sorts.SetNamed k) n g h = still_set known a b n g h
-
 still_meant : (known : List Sort) (a b : List Node) (ms : List Meant) → Grown known a b → AreMeant a ms → AreMeant b ms
 still_meant known a b [] g h = tt
-still_meant known a b (m ∷ ms) g h = (still_sort known a b m.sort m.number g h.0, still_meant known a b ms g h.1)
+still_meant known a b (m ∷ ms) g h = (still_sort m.sort known a b m.number g h.0, still_meant known a b ms g h.1)
 
 one_more_meant : (bank : List Node) (ms : List Meant) (m : Meant) → AreMeant bank ms → IsMeant bank m → AreMeant bank (ms ++ m ∷ [])
 one_more_meant bank [] m h is = (is, tt)

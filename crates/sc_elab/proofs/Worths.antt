@@ -1,9 +1,9 @@
 -- What is built for a term is worth what the term is worth.
-use Rattle.std.proofs.Common.{◌≡◌, ℕ, suc, Bool, true, false, not, ◌&&◌, List, [], ◌∷◌, map, Option, Some, None, refl, sym, ap, subst}
+use Rattle.std.proofs.Common.{◌≡◌, ℕ, suc, ℤ, Bool, true, false, not, ◌&&◌, List, [], ◌∷◌, map, Option, Some, None, refl, sym, ap, subst}
 use Rattle.std.specs.Prelude.{pos, ⊤, nat_lt, if◌then◌else◌, Result, Ok, Err}
 use Rattle.std.proofs.lemmas.Bool.{false≢true}
 use Rattle.std.specs.List.{IsDistinct}
-use Rattle.sc_base.specs.Integers.{has_element}
+use Rattle.sc_base.specs.Integers.{has_element, without}
 use Rattle.sc_text.specs.declared.code.Code.{Code}
 use Rattle.sc_text.specs.declared.code.Code.TheVariants as code
 use Rattle.sc_text.specs.declared.token.Kind.{Kind}
@@ -21,23 +21,27 @@ use Rattle.sc_terms.specs.declared.nodes.Sort.TheVariants as sorts
 use Rattle.sc_terms.specs.Bank.{IsBank, FormulaStands, IsFormulaOf}
 use Rattle.sc_terms.specs.BankValues.{bank_meaning, no_parts}
 use Rattle.sc_terms.specs.Meaning.{Interpretation, IsInterpretation, truth_of}
-use Rattle.sc_terms.specs.Same.{same_sort, same_truth}
+use Rattle.sc_terms.specs.Same.{same_sort, same_truth, same_sort-Decides}
 use Rattle.sc_stack.specs.declared.stack.Named.{Named}
 use Rattle.sc_stack.specs.declared.stack.Named.TheVariants as named
 use Rattle.sc_stack.specs.Names.{Names, look_up}
 use Rattle.sc_elab.specs.declared.meant.Meant.{Meant}
+use Rattle.sc_elab.specs.declared.heads.Head.{Head}
+use Rattle.sc_elab.specs.declared.heads.Head.TheVariants as heads
+use Rattle.sc_elab.specs.declared.set_terms.Join.TheVariants as joins
 use Rattle.sc_elab.specs.declared.words.Operator.{Operator}
 use Rattle.sc_elab.specs.declared.words.Operator.TheVariants as op
 use Rattle.sc_elab.specs.declared.words.Word.{Word}
 use Rattle.sc_elab.specs.declared.words.Word.TheVariants as word
 use Rattle.sc_elab.specs.Words.{word_of, between}
-use Rattle.sc_elab.specs.Heads.{operator_of}
-use Rattle.sc_elab.specs.States.{State, Outcome, Done, Fault, bind, put, put_formula}
-use Rattle.sc_elab.specs.Builds.{build}
-use Rattle.sc_elab.specs.Elab.{term, terms, behind_head, token_term, name_term, word_term, named_term, constant, leaf_formula, leaf_value, list_term, apply, built, fits, is_done, deepest, depth_limit, numbers, all_of, is_set_of, meant, need_bool, core}
-use Rattle.sc_elab.specs.Value.{Worth, Truth, Number, Members, operator_value, constant_value, named_value, word_value, token_value, list_value, term_value, values_behind_head, values}
-use Rattle.sc_elab.proofs.Standing.{BankLaws, Extends, Stands, unchanged, HasTruth, IsWorth, worth_stays, truth_stays, members_stay, value_stays, stands_bind, formula_stands, set_stands, element_stands}
-use Rattle.sc_elab.proofs.OperatorLaws.{Truths, all_true, any_true, and_law, or_law, not_law, implication_law, exclusive_law, equal_law, distinct_law, choice_law}
+use Rattle.sc_elab.specs.Heads.{head_of}
+use Rattle.sc_elab.specs.States.{State, Outcome, Done, Fault, bind, put, put_formula, put_set}
+use Rattle.sc_elab.specs.Builds.{build, single, union, joined, from_left, from_right}
+use Rattle.sc_elab.specs.Elab.{term, terms, behind_head, token_term, name_term, word_term, named_term, constant, leaf_formula, leaf_value, list_term, apply, built, fits, is_done, are_alike, are_sets, is_single, are_inserted, first_sort, sort_made, sort_of_sets, is_sort_of_sets, is_sort_of_elements, empty_set, deepest, depth_limit, numbers, all_of, is_set_of, meant, need_bool, core}
+use Rattle.sc_elab.specs.Value.{Worth, Truth, Number, Members, members, number, in_some, in_all, with_members, operator_value, constant_value, named_value, word_value, token_value, list_value, term_value, values_behind_head, values}
+use Rattle.sc_elab.proofs.Standing.{BankLaws, Extends, Stands, unchanged, HasTruth, HasValue, HasMembers, IsWorth, worth_stays, truth_stays, members_stay, value_stays, stands_bind, formula_stands, set_stands, element_stands}
+use Rattle.sc_elab.proofs.OperatorLaws.{Truths, Worths, all_true, any_true, and_law, or_law, not_law, implication_law, exclusive_law, equal_law, distinct_law, choice_law}
+use Rattle.sc_elab.proofs.SetLaws.{Sets, Inserted, single_law, minus_law, empty_law, unions_law, intersections_law, insertion_law, inclusion_law}
 
 both_true : (a b : Bool) → (a && b) ≡ true → (a ≡ true) × (b ≡ true)
 both_true true b e = (refl, e)
@@ -92,57 +96,53 @@ module _ (laws : BankLaws) (i : Interpretation) (proper : IsInterpretation i) wh
   as_truths bank [] (w ∷ ws) all h = absurd h
   as_truths bank (m ∷ ms) [] all h = absurd h
 
-  -- what an operator makes of formulas is as true as it says, and so a formula
-  abbrev pub BuildStands : Operator → List ℕ → List Worth → List Node → Type 0
-  BuildStands o fs ws bank = Stands bank (build o fs bank) (λ n new. IsWorth laws i proper sorts.Bool new n (operator_value o ws))
+  -- what an operator makes of its arguments is worth what it says
+  abbrev pub BuildStands : Operator → Sort → List ℕ → List Worth → List Node → Type 0
+  BuildStands o sort ns ws bank = Stands bank (build o sort ns bank) (λ n new. IsWorth laws i proper (sort_made o sort) new n (operator_value o ws))
 
-  not_stands : (fs : List ℕ) (bs : List Bool) (bank : List Node) → IsBank bank → Truths laws i proper bank fs bs → BuildStands op.Not fs (map Truth bs) bank
-  not_stands [] [] bank stands h = _
-  not_stands (f ∷ []) (b ∷ []) bank stands h = not_law laws i proper f b bank stands h.0
-  not_stands (f ∷ g ∷ fs) (b ∷ c ∷ bs) bank stands h = _
-  not_stands [] (b ∷ bs) bank stands h = absurd h
-  not_stands (f ∷ fs) [] bank stands h = absurd h
-  not_stands (f ∷ []) (b ∷ c ∷ bs) bank stands h = absurd h.1
-  not_stands (f ∷ g ∷ fs) (b ∷ []) bank stands h = absurd h.1
+  not_stands : (sort : Sort) (fs : List ℕ) (bs : List Bool) (bank : List Node) → IsBank bank → Truths laws i proper bank fs bs → BuildStands op.Not sort fs (map Truth bs) bank
+  not_stands sort [] [] bank stands h = _
+  not_stands sort (f ∷ []) (b ∷ []) bank stands h = not_law laws i proper f b bank stands h.0
+  not_stands sort (f ∷ g ∷ fs) (b ∷ c ∷ bs) bank stands h = _
+  not_stands sort [] (b ∷ bs) bank stands h = absurd h
+  not_stands sort (f ∷ fs) [] bank stands h = absurd h
+  not_stands sort (f ∷ []) (b ∷ c ∷ bs) bank stands h = absurd h.1
+  not_stands sort (f ∷ g ∷ fs) (b ∷ []) bank stands h = absurd h.1
 
-  and_stands : (fs : List ℕ) (bs : List Bool) (bank : List Node) → IsBank bank → Truths laws i proper bank fs bs → BuildStands op.And fs (map Truth bs) bank
-  and_stands fs bs bank stands h = subst (λ t. Stands bank (put_formula (formulas.And fs) bank) (λ n new. HasTruth laws i proper new n t)) (sym (all_true bs)) (and_law laws i proper fs bs bank stands h)
+  and_stands : (sort : Sort) (fs : List ℕ) (bs : List Bool) (bank : List Node) → IsBank bank → Truths laws i proper bank fs bs → BuildStands op.And sort fs (map Truth bs) bank
+  and_stands sort fs bs bank stands h = subst (λ t. Stands bank (put_formula (formulas.And fs) bank) (λ n new. HasTruth laws i proper new n t)) (sym (all_true bs)) (and_law laws i proper fs bs bank stands h)
 
-  or_stands : (fs : List ℕ) (bs : List Bool) (bank : List Node) → IsBank bank → Truths laws i proper bank fs bs → BuildStands op.Or fs (map Truth bs) bank
-  or_stands fs bs bank stands h = subst (λ t. Stands bank (put_formula (formulas.Or fs) bank) (λ n new. HasTruth laws i proper new n t)) (sym (any_true bs)) (or_law laws i proper fs bs bank stands h)
+  or_stands : (sort : Sort) (fs : List ℕ) (bs : List Bool) (bank : List Node) → IsBank bank → Truths laws i proper bank fs bs → BuildStands op.Or sort fs (map Truth bs) bank
+  or_stands sort fs bs bank stands h = subst (λ t. Stands bank (put_formula (formulas.Or fs) bank) (λ n new. HasTruth laws i proper new n t)) (sym (any_true bs)) (or_law laws i proper fs bs bank stands h)
 
-  equal_stands : (fs : List ℕ) (bs : List Bool) (bank : List Node) → IsBank bank → Truths laws i proper bank fs bs → BuildStands op.Equal fs (map Truth bs) bank
-  equal_stands [] bs bank stands h = _
-  equal_stands (f ∷ fs) bs bank stands h = equal_law laws i proper (f ∷ fs) bs bank stands h
+  xor_stands : (sort : Sort) (fs : List ℕ) (bs : List Bool) (bank : List Node) → IsBank bank → Truths laws i proper bank fs bs → BuildStands op.Xor sort fs (map Truth bs) bank
+  xor_stands sort [] [] bank stands h = _
+  xor_stands sort (f ∷ fs) (b ∷ bs) bank stands h = exclusive_law laws i proper f (not (same_truth false b)) fs bs bank stands (subst (λ t. HasTruth laws i proper bank f t) (sym (not_not b)) h.0) h.1
+  xor_stands sort [] (b ∷ bs) bank stands h = absurd h
+  xor_stands sort (f ∷ fs) [] bank stands h = absurd h
 
-  xor_stands : (fs : List ℕ) (bs : List Bool) (bank : List Node) → IsBank bank → Truths laws i proper bank fs bs → BuildStands op.Xor fs (map Truth bs) bank
-  xor_stands [] [] bank stands h = _
-  xor_stands (f ∷ fs) (b ∷ bs) bank stands h = exclusive_law laws i proper f (not (same_truth false b)) fs bs bank stands (subst (λ t. HasTruth laws i proper bank f t) (sym (not_not b)) h.0) h.1
-  xor_stands [] (b ∷ bs) bank stands h = absurd h
-  xor_stands (f ∷ fs) [] bank stands h = absurd h
+  choice_stands : (sort : Sort) (fs : List ℕ) (bs : List Bool) (bank : List Node) → IsBank bank → Truths laws i proper bank fs bs → BuildStands op.Choice sort fs (map Truth bs) bank
+  choice_stands sort [] [] bank stands h = _
+  choice_stands sort (c ∷ []) (a ∷ []) bank stands h = _
+  choice_stands sort (c ∷ f ∷ []) (a ∷ b ∷ []) bank stands h = _
+  choice_stands sort (c ∷ f ∷ g ∷ []) (a ∷ b ∷ d ∷ []) bank stands h = subst (λ w. Stands bank (build op.Choice sort (c ∷ f ∷ g ∷ []) bank) (λ n new. IsWorth laws i proper sorts.Bool new n w)) (chosen a b d) (choice_law laws i proper c f g a b d bank stands h.0 h.1.0 h.1.1.0)
+  choice_stands sort (c ∷ f ∷ g ∷ k ∷ fs) (a ∷ b ∷ d ∷ e ∷ bs) bank stands h = _
+  choice_stands sort [] (b ∷ bs) bank stands h = absurd h
+  choice_stands sort (f ∷ fs) [] bank stands h = absurd h
+  choice_stands sort (c ∷ []) (a ∷ b ∷ bs) bank stands h = absurd h.1
+  choice_stands sort (c ∷ f ∷ fs) (a ∷ []) bank stands h = absurd h.1
+  choice_stands sort (c ∷ f ∷ []) (a ∷ b ∷ d ∷ bs) bank stands h = absurd h.1.1
+  choice_stands sort (c ∷ f ∷ g ∷ fs) (a ∷ b ∷ []) bank stands h = absurd h.1.1
+  choice_stands sort (c ∷ f ∷ g ∷ []) (a ∷ b ∷ d ∷ e ∷ bs) bank stands h = absurd h.1.1.1
+  choice_stands sort (c ∷ f ∷ g ∷ k ∷ fs) (a ∷ b ∷ d ∷ []) bank stands h = absurd h.1.1.1
 
-  choice_stands : (fs : List ℕ) (bs : List Bool) (bank : List Node) → IsBank bank → Truths laws i proper bank fs bs → BuildStands op.Choice fs (map Truth bs) bank
-  choice_stands [] [] bank stands h = _
-  choice_stands (c ∷ []) (a ∷ []) bank stands h = _
-  choice_stands (c ∷ f ∷ []) (a ∷ b ∷ []) bank stands h = _
-  choice_stands (c ∷ f ∷ g ∷ []) (a ∷ b ∷ d ∷ []) bank stands h = subst (λ w. Stands bank (build op.Choice (c ∷ f ∷ g ∷ []) bank) (λ n new. IsWorth laws i proper sorts.Bool new n w)) (chosen a b d) (choice_law laws i proper c f g a b d bank stands h.0 h.1.0 h.1.1.0)
-  choice_stands (c ∷ f ∷ g ∷ k ∷ fs) (a ∷ b ∷ d ∷ e ∷ bs) bank stands h = _
-  choice_stands [] (b ∷ bs) bank stands h = absurd h
-  choice_stands (f ∷ fs) [] bank stands h = absurd h
-  choice_stands (c ∷ []) (a ∷ b ∷ bs) bank stands h = absurd h.1
-  choice_stands (c ∷ f ∷ fs) (a ∷ []) bank stands h = absurd h.1
-  choice_stands (c ∷ f ∷ []) (a ∷ b ∷ d ∷ bs) bank stands h = absurd h.1.1
-  choice_stands (c ∷ f ∷ g ∷ fs) (a ∷ b ∷ []) bank stands h = absurd h.1.1
-  choice_stands (c ∷ f ∷ g ∷ []) (a ∷ b ∷ d ∷ e ∷ bs) bank stands h = absurd h.1.1.1
-  choice_stands (c ∷ f ∷ g ∷ k ∷ fs) (a ∷ b ∷ d ∷ []) bank stands h = absurd h.1.1.1
-
-  formulas_stand : (o : Operator) (ms : List Meant) (ws : List Worth) (bank : List Node) → ((fs : List ℕ) (bs : List Bool) (bank : List Node) → IsBank bank → Truths laws i proper bank fs bs → BuildStands o fs (map Truth bs) bank) → all_of sorts.Bool ms ≡ true → IsBank bank → Are bank ms ws → BuildStands o (numbers ms) ws bank
-  formulas_stand o ms ws bank law all stands h =
+  formulas_stand : (o : Operator) (sort : Sort) (ms : List Meant) (ws : List Worth) (bank : List Node) → ((fs : List ℕ) (bs : List Bool) (bank : List Node) → IsBank bank → Truths laws i proper bank fs bs → BuildStands o sort fs (map Truth bs) bank) → all_of sorts.Bool ms ≡ true → IsBank bank → Are bank ms ws → BuildStands o sort (numbers ms) ws bank
+  formulas_stand o sort ms ws bank law all stands h =
       let t = as_truths bank ms ws all h in
-      subst (λ vs. BuildStands o (numbers ms) vs bank) (sym t.is) (law (numbers ms) t.bools bank stands t.truths)
+      subst (λ vs. BuildStands o sort (numbers ms) vs bank) (sym t.is) (law (numbers ms) t.bools bank stands t.truths)
 
   -- ---- an element and a set
-  member_stands : (bank : List Node) (es ss : Sort) (e s : ℕ) (v w : Worth) → IsBank bank → is_set_of es ss ≡ true → IsWorth laws i proper es bank e v → IsWorth laws i proper ss bank s w → BuildStands op.Member (e ∷ s ∷ []) (v ∷ w ∷ []) bank
+  member_stands : (bank : List Node) (es ss : Sort) (e s : ℕ) (v w : Worth) → IsBank bank → is_set_of es ss ≡ true → IsWorth laws i proper es bank e v → IsWorth laws i proper ss bank s w → BuildStands op.Member es (e ∷ s ∷ []) (v ∷ w ∷ []) bank
   member_stands bank (sorts.Named k) (sorts.SetNamed l) e s (Number z) (Members xs) stands fit g h = formula_stands laws i proper (formulas.Member e s) (has_element xs z) bank stands (g.0, h.0) (λ new x. let a = (members_stay laws i proper bank new s xs x h).1 in let b = (value_stays laws i proper bank new e z x g).1 in λ j. has_element (a j) (b j))
   member_stands bank sorts.Int sorts.SetInt e s (Number z) (Members xs) stands fit g h = formula_stands laws i proper (formulas.Member e s) (has_element xs z) bank stands (g.0, h.0) (λ new x. let a = (members_stay laws i proper bank new s xs x h).1 in let b = (value_stays laws i proper bank new e z x g).1 in λ j. has_element (a j) (b j))
   member_stands bank (sorts.Named k) (sorts.SetNamed l) e s (Truth b) w stands fit g h = absurd g
@@ -165,7 +165,7 @@ module _ (laws : BankLaws) (i : Interpretation) (proper : IsInterpretation i) wh
   member_stands bank sorts.SetInt ss e s v w stands fit g h = absurd (false≢true fit)
   member_stands bank (sorts.SetNamed l) ss e s v w stands fit g h = absurd (false≢true fit)
 
-  members_stand : (ms : List Meant) (ws : List Worth) (bank : List Node) → fits op.Member ms ≡ true → IsBank bank → Are bank ms ws → BuildStands op.Member (numbers ms) ws bank
+  members_stand : (ms : List Meant) (ws : List Worth) (bank : List Node) → fits op.Member ms ≡ true → IsBank bank → Are bank ms ws → BuildStands op.Member (first_sort ms) (numbers ms) ws bank
   members_stand (e ∷ s ∷ []) (v ∷ w ∷ []) bank fit stands h = member_stands bank e.sort s.sort e.number s.number v w stands fit h.0 h.1.0
   members_stand [] ws bank fit stands h = absurd (false≢true fit)
   members_stand (m ∷ []) ws bank fit stands h = absurd (false≢true fit)
@@ -174,24 +174,177 @@ module _ (laws : BankLaws) (i : Interpretation) (proper : IsInterpretation i) wh
   members_stand (e ∷ s ∷ []) (v ∷ []) bank fit stands h = absurd h.1
   members_stand (e ∷ s ∷ []) (v ∷ w ∷ x ∷ ws) bank fit stands h = absurd h.1.1
 
+  -- ---- arguments of one sort
+  as_worths : (bank : List Node) (sort : Sort) (ms : List Meant) (ws : List Worth) → all_of sort ms ≡ true → Are bank ms ws → Worths laws i proper sort bank (numbers ms) ws
+  as_worths bank sort [] [] all h = _
+  as_worths bank sort (m ∷ ms) (w ∷ ws) all h =
+      let both = both_true (same_sort sort m.sort) (all_of sort ms) all in
+      let is : sort ≡ m.sort = (same_sort-Decides sort m.sort).0 both.0 in
+      (subst (λ s. IsWorth laws i proper s bank m.number w) (sym is) h.0, as_worths bank sort ms ws both.1 h.1)
+  as_worths bank sort [] (w ∷ ws) all h = absurd h
+  as_worths bank sort (m ∷ ms) [] all h = absurd h
+
+  alike_worths : (bank : List Node) (ms : List Meant) (ws : List Worth) → are_alike ms ≡ true → Are bank ms ws → Worths laws i proper (first_sort ms) bank (numbers ms) ws
+  alike_worths bank [] [] fit h = _
+  alike_worths bank (m ∷ ms) (w ∷ ws) fit h = (h.0, as_worths bank m.sort ms ws fit h.1)
+  alike_worths bank [] (w ∷ ws) fit h = absurd h
+  alike_worths bank (m ∷ ms) [] fit h = absurd h
+
+  equal_stands : (sort : Sort) (ns : List ℕ) (ws : List Worth) (bank : List Node) → IsBank bank → Worths laws i proper sort bank ns ws → BuildStands op.Equal sort ns ws bank
+  equal_stands sort [] ws bank stands h = _
+  equal_stands sort (n ∷ ns) ws bank stands h = equal_law laws i proper sort (n ∷ ns) ws bank stands h
+
+  -- ---- sets
+  as_members : (bank : List Node) (sort : Sort) (n : ℕ) (w : Worth) → is_sort_of_sets sort ≡ true → IsWorth laws i proper sort bank n w → HasMembers laws i proper bank n (members w)
+  as_members bank sorts.SetInt n (Members xs) e h = h
+  as_members bank (sorts.SetNamed k) n (Members xs) e h = h
+  as_members bank sorts.SetInt n (Truth b) e h = absurd h
+  as_members bank sorts.SetInt n (Number z) e h = absurd h
+  as_members bank (sorts.SetNamed k) n (Truth b) e h = absurd h
+  as_members bank (sorts.SetNamed k) n (Number z) e h = absurd h
+  as_members bank sorts.Bool n w e h = absurd (false≢true e)
+  as_members bank sorts.Int n w e h = absurd (false≢true e)
+  as_members bank (sorts.Named k) n w e h = absurd (false≢true e)
+
+  of_sort : (bank : List Node) (sort : Sort) (n : ℕ) (xs : List ℤ) → is_sort_of_sets sort ≡ true → HasMembers laws i proper bank n xs → IsWorth laws i proper sort bank n (Members xs)
+  of_sort bank sorts.SetInt n xs e h = h
+  of_sort bank (sorts.SetNamed k) n xs e h = h
+  of_sort bank sorts.Bool n xs e h = absurd (false≢true e)
+  of_sort bank sorts.Int n xs e h = absurd (false≢true e)
+  of_sort bank (sorts.Named k) n xs e h = absurd (false≢true e)
+
+  as_number : (bank : List Node) (sort : Sort) (n : ℕ) (w : Worth) → is_sort_of_elements sort ≡ true → IsWorth laws i proper sort bank n w → HasValue laws i proper bank n (number w)
+  as_number bank sorts.Int n (Number z) e h = h
+  as_number bank (sorts.Named k) n (Number z) e h = h
+  as_number bank sorts.Int n (Truth b) e h = absurd h
+  as_number bank sorts.Int n (Members xs) e h = absurd h
+  as_number bank (sorts.Named k) n (Truth b) e h = absurd h
+  as_number bank (sorts.Named k) n (Members xs) e h = absurd h
+  as_number bank sorts.Bool n w e h = absurd (false≢true e)
+  as_number bank sorts.SetInt n w e h = absurd (false≢true e)
+  as_number bank (sorts.SetNamed k) n w e h = absurd (false≢true e)
+
+  as_sets : (bank : List Node) (sort : Sort) (ns : List ℕ) (ws : List Worth) → is_sort_of_sets sort ≡ true → Worths laws i proper sort bank ns ws → Sets laws i proper bank ns ws
+  as_sets bank sort [] [] e h = _
+  as_sets bank sort (n ∷ ns) (w ∷ ws) e h = (as_members bank sort n w e h.0, as_sets bank sort ns ws e h.1)
+  as_sets bank sort [] (w ∷ ws) e h = absurd h
+  as_sets bank sort (n ∷ ns) [] e h = absurd h
+
+  -- what is known of the members is known of the worth
+  made_of_sort : (sort : Sort) (xs : List ℤ) (bank : List Node) (o : Outcome ℕ) → is_sort_of_sets sort ≡ true → Stands bank o (λ n new. HasMembers laws i proper new n xs) → Stands bank o (λ n new. IsWorth laws i proper sort new n (Members xs))
+  made_of_sort sort xs bank (Done n new) e h = (h.0, of_sort new sort n xs e h.1)
+  made_of_sort sort xs bank (Fault fault new) e h = _
+
+  subset_stands : (sort : Sort) (ns : List ℕ) (ws : List Worth) (bank : List Node) → IsBank bank → Sets laws i proper bank ns ws → BuildStands op.Subset sort ns ws bank
+  subset_stands sort [] ws bank stands h = _
+  subset_stands sort (s ∷ []) ws bank stands h = _
+  subset_stands sort (s ∷ t ∷ []) (v ∷ w ∷ []) bank stands h = inclusion_law laws i proper sort s t (members v) (members w) bank stands h.0 h.1.0
+  subset_stands sort (s ∷ t ∷ x ∷ ns) ws bank stands h = _
+  subset_stands sort (s ∷ t ∷ []) [] bank stands h = absurd h
+  subset_stands sort (s ∷ t ∷ []) (v ∷ []) bank stands h = absurd h.1
+  subset_stands sort (s ∷ t ∷ []) (v ∷ w ∷ x ∷ ws) bank stands h = absurd h.1.1
+
+  minus_stands : (sort : Sort) (ns : List ℕ) (ws : List Worth) (bank : List Node) → is_sort_of_sets sort ≡ true → IsBank bank → Sets laws i proper bank ns ws → BuildStands op.Minus sort ns ws bank
+  minus_stands sort [] ws bank fit stands h = _
+  minus_stands sort (s ∷ []) ws bank fit stands h = _
+  minus_stands sort (s ∷ t ∷ []) (v ∷ w ∷ []) bank fit stands h = made_of_sort sort (without (members v) (members w)) bank (put_set (sets.Minus s t) bank) fit (minus_law laws i proper s t (members v) (members w) bank stands h.0 h.1.0)
+  minus_stands sort (s ∷ t ∷ x ∷ ns) ws bank fit stands h = _
+  minus_stands sort (s ∷ t ∷ []) [] bank fit stands h = absurd h
+  minus_stands sort (s ∷ t ∷ []) (v ∷ []) bank fit stands h = absurd h.1
+  minus_stands sort (s ∷ t ∷ []) (v ∷ w ∷ x ∷ ws) bank fit stands h = absurd h.1.1
+
+  union_stands : (sort : Sort) (ns : List ℕ) (ws : List Worth) (bank : List Node) → is_sort_of_sets sort ≡ true → IsBank bank → Sets laws i proper bank ns ws → BuildStands op.Union sort ns ws bank
+  union_stands sort [] ws bank fit stands h = _
+  union_stands sort (s ∷ ns) (v ∷ ws) bank fit stands h = made_of_sort sort (in_some (members v) ws) bank (from_left (joined joins.Union) s ns bank) fit (unions_law laws i proper s (members v) ns ws bank stands h.0 h.1)
+  union_stands sort (s ∷ ns) [] bank fit stands h = absurd h
+
+  inter_stands : (sort : Sort) (ns : List ℕ) (ws : List Worth) (bank : List Node) → is_sort_of_sets sort ≡ true → IsBank bank → Sets laws i proper bank ns ws → BuildStands op.Inter sort ns ws bank
+  inter_stands sort [] ws bank fit stands h = _
+  inter_stands sort (s ∷ ns) (v ∷ ws) bank fit stands h = made_of_sort sort (in_all (members v) ws) bank (from_left (joined joins.Inter) s ns bank) fit (intersections_law laws i proper s (members v) ns ws bank stands h.0 h.1)
+  inter_stands sort (s ∷ ns) [] bank fit stands h = absurd h
+
+  sets_stand : (o : Operator) (ms : List Meant) (ws : List Worth) (bank : List Node) → ((sort : Sort) (ns : List ℕ) (ws : List Worth) (bank : List Node) → is_sort_of_sets sort ≡ true → IsBank bank → Sets laws i proper bank ns ws → BuildStands o sort ns ws bank) → are_sets ms ≡ true → IsBank bank → Are bank ms ws → BuildStands o (first_sort ms) (numbers ms) ws bank
+  sets_stand o [] ws bank law fit stands h = absurd (false≢true fit)
+  sets_stand o (m ∷ ms) [] bank law fit stands h = absurd h
+  sets_stand o (m ∷ ms) (w ∷ ws) bank law fit stands h =
+      let both = both_true (is_sort_of_sets m.sort) (all_of m.sort ms) fit in
+      law m.sort (numbers (m ∷ ms)) (w ∷ ws) bank both.0 stands (as_members bank m.sort m.number w both.0 h.0, as_sets bank m.sort (numbers ms) ws both.0 (as_worths bank m.sort ms ws both.1 h.1))
+
+  -- ---- elements of sets
+  sort_holds : (sort : Sort) → is_sort_of_elements sort ≡ true → is_sort_of_sets (sort_of_sets sort) ≡ true
+  sort_holds sorts.Int e = refl
+  sort_holds (sorts.Named k) e = refl
+  sort_holds sorts.Bool e = absurd (false≢true e)
+  sort_holds sorts.SetInt e = absurd (false≢true e)
+  sort_holds (sorts.SetNamed k) e = absurd (false≢true e)
+
+  has_sets : (s t : Sort) → is_set_of s t ≡ true → (is_sort_of_elements s ≡ true) × (is_sort_of_sets t ≡ true)
+  has_sets (sorts.Named k) (sorts.SetNamed l) e = (refl, refl)
+  has_sets (sorts.Named k) sorts.Bool e = absurd (false≢true e)
+  has_sets (sorts.Named k) sorts.Int e = absurd (false≢true e)
+  has_sets (sorts.Named k) (sorts.Named l) e = absurd (false≢true e)
+  has_sets (sorts.Named k) sorts.SetInt e = absurd (false≢true e)
+  has_sets sorts.Int sorts.SetInt e = (refl, refl)
+  has_sets sorts.Int sorts.Bool e = absurd (false≢true e)
+  has_sets sorts.Int sorts.Int e = absurd (false≢true e)
+  has_sets sorts.Int (sorts.Named l) e = absurd (false≢true e)
+  has_sets sorts.Int (sorts.SetNamed l) e = absurd (false≢true e)
+  has_sets sorts.Bool t e = absurd (false≢true e)
+  has_sets sorts.SetInt t e = absurd (false≢true e)
+  has_sets (sorts.SetNamed k) t e = absurd (false≢true e)
+
+  single_stands : (ms : List Meant) (ws : List Worth) (bank : List Node) → is_single ms ≡ true → IsBank bank → Are bank ms ws → BuildStands op.Singleton (first_sort ms) (numbers ms) ws bank
+  single_stands [] ws bank fit stands h = absurd (false≢true fit)
+  single_stands (m ∷ k ∷ ms) ws bank fit stands h = absurd (false≢true fit)
+  single_stands (m ∷ []) (w ∷ []) bank fit stands h = made_of_sort (sort_of_sets m.sort) (number w ∷ []) bank (single m.number bank) (sort_holds m.sort fit) (single_law laws i proper m.number (number w) bank stands (as_number bank m.sort m.number w fit h.0))
+  single_stands (m ∷ []) [] bank fit stands h = absurd h
+  single_stands (m ∷ []) (v ∷ w ∷ ws) bank fit stands h = absurd h.1
+
+  inserts_sort : (sort : Sort) (ms : List Meant) → are_inserted sort ms ≡ true → is_sort_of_elements sort ≡ true
+  inserts_sort sort [] e = absurd (false≢true e)
+  inserts_sort sort (s ∷ []) e = (has_sets sort s.sort e).0
+  inserts_sort sort (m ∷ n ∷ ms) e = inserts_sort sort (n ∷ ms) (both_true (same_sort sort m.sort) (are_inserted sort (n ∷ ms)) e).1
+
+  as_inserted : (bank : List Node) (sort : Sort) (ms : List Meant) (ws : List Worth) → are_inserted sort ms ≡ true → Are bank ms ws → Inserted laws i proper bank (numbers ms) ws
+  as_inserted bank sort [] ws e h = absurd (false≢true e)
+  as_inserted bank sort (s ∷ []) (w ∷ []) e h = as_members bank s.sort s.number w (has_sets sort s.sort e).1 h.0
+  as_inserted bank sort (m ∷ n ∷ ms) (w ∷ v ∷ ws) e h =
+      let both = both_true (same_sort sort m.sort) (are_inserted sort (n ∷ ms)) e in
+      let is : sort ≡ m.sort = (same_sort-Decides sort m.sort).0 both.0 in
+      (as_number bank sort m.number w (inserts_sort sort (n ∷ ms) both.1) (subst (λ s. IsWorth laws i proper s bank m.number w) (sym is) h.0), as_inserted bank sort (n ∷ ms) (v ∷ ws) both.1 h.1)
+  as_inserted bank sort (s ∷ []) [] e h = absurd h
+  as_inserted bank sort (s ∷ []) (v ∷ w ∷ ws) e h = absurd h.1
+  as_inserted bank sort (m ∷ n ∷ ms) [] e h = absurd h
+  as_inserted bank sort (m ∷ n ∷ ms) (w ∷ []) e h = absurd h.1
+
+  insert_stands : (ms : List Meant) (ws : List Worth) (bank : List Node) → are_inserted (first_sort ms) ms ≡ true → IsBank bank → Are bank ms ws → BuildStands op.Insert (first_sort ms) (numbers ms) ws bank
+  insert_stands ms ws bank fit stands h =
+      made_of_sort (sort_of_sets (first_sort ms)) (with_members ws) bank (from_right single union (numbers ms) bank) (sort_holds (first_sort ms) (inserts_sort (first_sort ms) ms fit)) (insertion_law laws i proper (numbers ms) ws bank stands (as_inserted bank (first_sort ms) ms ws fit h))
+
   -- ---- applications
-  build_stands : (o : Operator) (ms : List Meant) (ws : List Worth) (bank : List Node) → fits o ms ≡ true → is_done o ms ≡ true → IsBank bank → Are bank ms ws → BuildStands o (numbers ms) ws bank
-  build_stands op.Not ms ws bank fit done stands h = formulas_stand op.Not ms ws bank not_stands fit stands h
-  build_stands op.And ms ws bank fit done stands h = formulas_stand op.And ms ws bank and_stands fit stands h
-  build_stands op.Or ms ws bank fit done stands h = formulas_stand op.Or ms ws bank or_stands fit stands h
-  build_stands op.Implies ms ws bank fit done stands h = formulas_stand op.Implies ms ws bank (implication_law laws i proper) fit stands h
-  build_stands op.Xor ms ws bank fit done stands h = formulas_stand op.Xor ms ws bank xor_stands fit stands h
-  build_stands op.Equal ms ws bank fit done stands h = formulas_stand op.Equal ms ws bank equal_stands done stands h
-  build_stands op.Distinct ms ws bank fit done stands h = formulas_stand op.Distinct ms ws bank (distinct_law laws i proper) done stands h
-  build_stands op.Choice ms ws bank fit done stands h = formulas_stand op.Choice ms ws bank choice_stands done stands h
+  build_stands : (o : Operator) (ms : List Meant) (ws : List Worth) (bank : List Node) → fits o ms ≡ true → is_done o ms ≡ true → IsBank bank → Are bank ms ws → BuildStands o (first_sort ms) (numbers ms) ws bank
+  build_stands op.Not ms ws bank fit done stands h = formulas_stand op.Not (first_sort ms) ms ws bank (not_stands (first_sort ms)) fit stands h
+  build_stands op.And ms ws bank fit done stands h = formulas_stand op.And (first_sort ms) ms ws bank (and_stands (first_sort ms)) fit stands h
+  build_stands op.Or ms ws bank fit done stands h = formulas_stand op.Or (first_sort ms) ms ws bank (or_stands (first_sort ms)) fit stands h
+  build_stands op.Implies ms ws bank fit done stands h = formulas_stand op.Implies (first_sort ms) ms ws bank (implication_law laws i proper) fit stands h
+  build_stands op.Xor ms ws bank fit done stands h = formulas_stand op.Xor (first_sort ms) ms ws bank (xor_stands (first_sort ms)) fit stands h
+  build_stands op.Equal ms ws bank fit done stands h = equal_stands (first_sort ms) (numbers ms) ws bank stands (alike_worths bank ms ws fit h)
+  build_stands op.Distinct ms ws bank fit done stands h = distinct_law laws i proper (first_sort ms) (numbers ms) ws bank stands (alike_worths bank ms ws fit h)
+  build_stands op.Choice ms ws bank fit done stands h = formulas_stand op.Choice (first_sort ms) ms ws bank (choice_stands (first_sort ms)) done stands h
   build_stands op.Member ms ws bank fit done stands h = members_stand ms ws bank fit stands h
+  build_stands op.Subset ms ws bank fit done stands h = sets_stand op.Subset ms ws bank (λ sort ns vs b e. subset_stands sort ns vs b) fit stands h
+  build_stands op.Union ms ws bank fit done stands h = sets_stand op.Union ms ws bank union_stands fit stands h
+  build_stands op.Inter ms ws bank fit done stands h = sets_stand op.Inter ms ws bank inter_stands fit stands h
+  build_stands op.Minus ms ws bank fit done stands h = sets_stand op.Minus ms ws bank minus_stands fit stands h
+  build_stands op.Singleton ms ws bank fit done stands h = single_stands ms ws bank fit stands h
+  build_stands op.Insert ms ws bank fit done stands h = insert_stands ms ws bank fit stands h
 
   apply_stands : (o : Operator) (ms : List Meant) (ws : List Worth) (bank : List Node) → IsBank bank → Are bank ms ws → Stands bank (apply o ms bank) (Is (operator_value o ws))
   apply_stands o ms ws bank stands h = by (fits o ms) (is_done o ms) (nat_lt (deepest ms) depth_limit) refl refl
     where
       by : (f d l : Bool) → fits o ms ≡ f → is_done o ms ≡ d → Stands bank (built (if not f then Some code.E7 else if not d then Some code.E8 else if not l then Some (code.E16 depth_limit) else None) o ms bank) (Is (operator_value o ws))
       by true true true fit done =
-          stands_bind laws i proper bank (build o (numbers ms) bank) (λ n b. Done (meant sorts.Bool (suc (deepest ms)) n) b) (λ n new. IsWorth laws i proper sorts.Bool new n (operator_value o ws)) (Is (operator_value o ws))
+          stands_bind laws i proper bank (build o (first_sort ms) (numbers ms) bank) (λ n b. Done (meant (sort_made o (first_sort ms)) (suc (deepest ms)) n) b) (λ n new. IsWorth laws i proper (sort_made o (first_sort ms)) new n (operator_value o ws)) (Is (operator_value o ws))
           (build_stands o ms ws bank fit done stands h)
           (λ n b e is. (unchanged b e.bank, is))
       by true true false fit done = _
@@ -221,6 +374,13 @@ module _ (laws : BankLaws) (i : Interpretation) (proper : IsInterpretation i) wh
   constant_stands n sorts.Int bank stands = _
   constant_stands n sorts.SetInt bank stands = _
 
+  empty_stands : (sort : Sort) (bank : List Node) → IsBank bank → Stands bank (empty_set sort bank) (Is (Members []))
+  empty_stands (sorts.SetNamed k) bank stands = leaf_value_stands (sorts.SetNamed k) (nodes.Set (sets.Empty (sorts.SetNamed k))) (Members []) bank stands (λ b is. empty_law laws i proper (sorts.SetNamed k) b is)
+  empty_stands sorts.SetInt bank stands = _
+  empty_stands sorts.Bool bank stands = _
+  empty_stands sorts.Int bank stands = _
+  empty_stands (sorts.Named k) bank stands = _
+
   named_stands : (found : Option Named) (bank : List Node) → IsBank bank → Stands bank (named_term found bank) (Is (named_value i found))
   named_stands (Some (named.Constant n sort)) bank stands = constant_stands n sort bank stands
   named_stands (Some (named.Sort n)) bank stands = _
@@ -230,6 +390,7 @@ module _ (laws : BankLaws) (i : Interpretation) (proper : IsInterpretation i) wh
   word_stands names word.True name bank stands = leaf_formula_stands formulas.True true bank stands _ (λ new e. refl)
   word_stands names word.False name bank stands = leaf_formula_stands formulas.False false bank stands _ (λ new e. refl)
   word_stands names (word.Operator o) name bank stands = _
+  word_stands names word.EmptySet name bank stands = _
   word_stands names word.Outside name bank stands = _
   word_stands names word.Free name bank stands = named_stands (look_up names name) bank stands
 
@@ -248,14 +409,15 @@ module _ (laws : BankLaws) (i : Interpretation) (proper : IsInterpretation i) wh
   token_stands names kind.Right text bank stands = _
 
   -- ---- all terms
-  list_stands : (head : Result Operator Code) (arguments : List Node → Outcome (List Meant)) (ws : List Worth) (bank : List Node) → Stands bank (arguments bank) (λ ms new. Are new ms ws) → Stands bank (list_term head arguments bank) (Is (list_value head ws))
-  list_stands (Err fault) arguments ws bank h = _
-  list_stands (Ok o) arguments ws bank h = stands_bind laws i proper bank (arguments bank) (apply o) (λ ms new. Are new ms ws) (Is (operator_value o ws)) h (λ ms new e are. apply_stands o ms ws new e.bank are)
+  list_stands : (head : Result Head Code) (arguments : List Node → Outcome (List Meant)) (ws : List Worth) (bank : List Node) → IsBank bank → Stands bank (arguments bank) (λ ms new. Are new ms ws) → Stands bank (list_term head arguments bank) (Is (list_value head ws))
+  list_stands (Err fault) arguments ws bank stands h = _
+  list_stands (Ok (heads.EmptySet sort)) arguments ws bank stands h = empty_stands sort bank stands
+  list_stands (Ok (heads.Operator o)) arguments ws bank stands h = stands_bind laws i proper bank (arguments bank) (apply o) (λ ms new. Are new ms ws) (Is (operator_value o ws)) h (λ ms new e are. apply_stands o ms ws new e.bank are)
 
   mutual
     pub term_stands : (names : Names) (t : Shape) (bank : List Node) → IsBank bank → Stands bank (term names t bank) (Is (term_value names i t))
     term_stands names (Single k text start line) bank stands = token_stands names k text bank stands
-    term_stands names (Listed line parts) bank stands = list_stands (operator_of names parts) (behind_head names parts) (values_behind_head names i parts) bank (behind_stands names parts bank stands)
+    term_stands names (Listed line parts) bank stands = list_stands (head_of names parts) (behind_head names parts) (values_behind_head names i parts) bank stands (behind_stands names parts bank stands)
 
     behind_stands : (names : Names) (parts : Shapes) (bank : List Node) → IsBank bank → Stands bank (behind_head names parts bank) (λ ms new. Are new ms (values_behind_head names i parts))
     behind_stands names Empty bank stands = (unchanged bank stands, _)

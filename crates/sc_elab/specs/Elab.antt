@@ -1,4 +1,4 @@
--- Elaboration: the core formula of a term, or what is wrong with it first.
+-- Elaboration: the core formula or the set term of a term, or what is wrong with it first.
 --
 -- A term is checked depth first: its own shape, the name in front, the number of arguments, the arguments from left to right, the sorts of the arguments, whether the operator is done for them, the depth of the term, and the room in the bank.
 use Rattle.std.specs.Prelude.{ℕ, suc, max, Bool, true, false, not, ◌&&◌, nat_lt, if◌then◌else◌, List, [], ◌∷◌, map, Option, Some, None, Result, Ok, Err}
@@ -21,12 +21,14 @@ use Rattle.sc_stack.specs.declared.stack.Named.{Named}
 use Rattle.sc_stack.specs.declared.stack.Named.TheVariants as named
 use Rattle.sc_stack.specs.Names.{Names, look_up}
 use Rattle.sc_elab.specs.declared.meant.Meant.{Meant}
+use Rattle.sc_elab.specs.declared.heads.Head.{Head}
+use Rattle.sc_elab.specs.declared.heads.Head.TheVariants as heads
 use Rattle.sc_elab.specs.declared.words.Operator.{Operator}
 use Rattle.sc_elab.specs.declared.words.Operator.TheVariants as op
 use Rattle.sc_elab.specs.declared.words.Word.{Word}
 use Rattle.sc_elab.specs.declared.words.Word.TheVariants as word
 use Rattle.sc_elab.specs.Words.{word_of, between}
-use Rattle.sc_elab.specs.Heads.{operator_of}
+use Rattle.sc_elab.specs.Heads.{head_of}
 use Rattle.sc_elab.specs.States.{State, Outcome, Done, Fault, bind, put, put_formula}
 use Rattle.sc_elab.specs.Builds.{build}
 
@@ -49,16 +51,25 @@ constant n (sorts.SetNamed k) bank = leaf_value (sorts.SetNamed k) (nodes.Set (s
 constant n sorts.Int bank = Fault code.E8 bank
 constant n sorts.SetInt bank = Fault code.E8 bank
 
+-- the empty set of a sort of sets
+abbrev pub empty_set : Sort → List Node → Outcome Meant
+empty_set (sorts.SetNamed k) bank = leaf_value (sorts.SetNamed k) (nodes.Set (sets.Empty (sorts.SetNamed k))) bank
+empty_set sorts.SetInt bank = Fault code.E8 bank
+empty_set sorts.Bool bank = Fault code.E8 bank
+empty_set sorts.Int bank = Fault code.E8 bank
+empty_set (sorts.Named k) bank = Fault code.E8 bank
+
 abbrev pub named_term : Option Named → List Node → Outcome Meant
 named_term (Some (named.Constant n sort)) bank = constant n sort bank
 named_term (Some (named.Sort n)) bank = Fault code.E6 bank
 named_term None bank = Fault code.E6 bank
 
--- an operator alone has too few arguments
+-- an operator alone has too few arguments, and `set.empty` alone no sort
 abbrev pub word_term : Names → Word → List ℕ → List Node → Outcome Meant
 word_term names word.True name bank = leaf_formula (nodes.Formula formulas.True) bank
 word_term names word.False name bank = leaf_formula (nodes.Formula formulas.False) bank
 word_term names (word.Operator o) name bank = Fault code.E7 bank
+word_term names word.EmptySet name bank = Fault code.E7 bank
 word_term names word.Outside name bank = Fault code.E8 bank
 word_term names word.Free name bank = named_term (look_up names name) bank
 
@@ -93,6 +104,27 @@ is_set_of (sorts.Named k) set = same_sort (sorts.SetNamed k) set
 is_set_of sorts.Int set = same_sort sorts.SetInt set
 is_set_of sort set = false
 
+-- the sorts of sets, and the sorts whose things are elements of sets
+abbrev pub is_sort_of_sets : Sort → Bool
+is_sort_of_sets sorts.SetInt = true
+is_sort_of_sets (sorts.SetNamed k) = true
+is_sort_of_sets sorts.Bool = false
+is_sort_of_sets sorts.Int = false
+is_sort_of_sets (sorts.Named k) = false
+
+abbrev pub is_sort_of_elements : Sort → Bool
+is_sort_of_elements sorts.Int = true
+is_sort_of_elements (sorts.Named k) = true
+is_sort_of_elements sorts.Bool = false
+is_sort_of_elements sorts.SetInt = false
+is_sort_of_elements (sorts.SetNamed k) = false
+
+-- the sort of the sets of a sort of elements; other sorts have none, and stand for themselves
+abbrev pub sort_of_sets : Sort → Sort
+sort_of_sets sorts.Int = sorts.SetInt
+sort_of_sets (sorts.Named k) = sorts.SetNamed k
+sort_of_sets sort = sort
+
 -- all arguments have one sort
 abbrev pub are_alike : List Meant → Bool
 are_alike [] = true
@@ -106,25 +138,84 @@ abbrev pub is_membership : List Meant → Bool
 is_membership (e ∷ s ∷ []) = is_set_of e.sort s.sort
 is_membership ms = false
 
+-- all arguments are sets of one sort, and there is one
+abbrev pub are_sets : List Meant → Bool
+are_sets [] = false
+are_sets (m ∷ ms) = is_sort_of_sets m.sort && all_of m.sort ms
+
+abbrev pub is_single : List Meant → Bool
+is_single (e ∷ []) = is_sort_of_elements e.sort
+is_single ms = false
+
+-- elements of the sort, and then a set of such
+abbrev pub are_inserted : Sort → List Meant → Bool
+are_inserted sort [] = false
+are_inserted sort (s ∷ []) = is_set_of sort s.sort
+are_inserted sort (e ∷ m ∷ ms) = same_sort sort e.sort && are_inserted sort (m ∷ ms)
+
+-- the sort of the first argument
+abbrev pub first_sort : List Meant → Sort
+first_sort [] = sorts.Bool
+first_sort (m ∷ ms) = m.sort
+
 -- the sorts of the arguments fit the operator
 abbrev pub fits : Operator → List Meant → Bool
+fits op.Not ms = all_of sorts.Bool ms
+fits op.And ms = all_of sorts.Bool ms
+fits op.Or ms = all_of sorts.Bool ms
+fits op.Implies ms = all_of sorts.Bool ms
+fits op.Xor ms = all_of sorts.Bool ms
 fits op.Equal ms = are_alike ms
 fits op.Distinct ms = are_alike ms
 fits op.Choice ms = is_choice ms
 fits op.Member ms = is_membership ms
-fits o ms = all_of sorts.Bool ms
+fits op.Subset ms = are_sets ms
+fits op.Union ms = are_sets ms
+fits op.Inter ms = are_sets ms
+fits op.Minus ms = are_sets ms
+fits op.Singleton ms = is_single ms
+fits op.Insert ms = are_inserted (first_sort ms) ms
 
--- the operator is done for arguments of these sorts, where they fit: equations and `ite` of Bool alone
+-- the operator is done for arguments of these sorts, where they fit: `ite` of Bool alone, and no equations of integers
 abbrev pub is_done : Operator → List Meant → Bool
-is_done op.Equal ms = all_of sorts.Bool ms
-is_done op.Distinct ms = all_of sorts.Bool ms
+is_done op.Not ms = true
+is_done op.And ms = true
+is_done op.Or ms = true
+is_done op.Implies ms = true
+is_done op.Xor ms = true
+is_done op.Equal ms = not (same_sort sorts.Int (first_sort ms))
+is_done op.Distinct ms = not (same_sort sorts.Int (first_sort ms))
 is_done op.Choice ms = all_of sorts.Bool ms
-is_done o ms = true
+is_done op.Member ms = true
+is_done op.Subset ms = true
+is_done op.Union ms = true
+is_done op.Inter ms = true
+is_done op.Minus ms = true
+is_done op.Singleton ms = true
+is_done op.Insert ms = true
+
+-- the sort of an application, by the sort of its first argument
+abbrev pub sort_made : Operator → Sort → Sort
+sort_made op.Not sort = sorts.Bool
+sort_made op.And sort = sorts.Bool
+sort_made op.Or sort = sorts.Bool
+sort_made op.Implies sort = sorts.Bool
+sort_made op.Xor sort = sorts.Bool
+sort_made op.Equal sort = sorts.Bool
+sort_made op.Distinct sort = sorts.Bool
+sort_made op.Choice sort = sorts.Bool
+sort_made op.Member sort = sorts.Bool
+sort_made op.Subset sort = sorts.Bool
+sort_made op.Union sort = sort
+sort_made op.Inter sort = sort
+sort_made op.Minus sort = sort
+sort_made op.Singleton sort = sort_of_sets sort
+sort_made op.Insert sort = sort_of_sets sort
 
 abbrev pub depth_limit : ℕ
 depth_limit = 1000
 
--- what is wrong with an application whose arguments are elaborated, before its core formula is built
+-- what is wrong with an application whose arguments are elaborated, before its core formula or set term is built
 abbrev pub application_fault : Operator → List Meant → Option Code
 application_fault o ms =
     if not (fits o ms) then Some code.E7
@@ -134,22 +225,22 @@ application_fault o ms =
 
 abbrev pub built : Option Code → Operator → List Meant → List Node → Outcome Meant
 built (Some fault) o ms bank = Fault fault bank
-built None o ms bank = bind (build o (numbers ms) bank) (λ n b. Done (meant sorts.Bool (suc (deepest ms)) n) b)
+built None o ms bank = bind (build o (first_sort ms) (numbers ms) bank) (λ n b. Done (meant (sort_made o (first_sort ms)) (suc (deepest ms)) n) b)
 
--- the operators that are done make formulas
 abbrev pub apply : Operator → List Meant → List Node → Outcome Meant
 apply o ms bank = built (application_fault o ms) o ms bank
 
--- a list with its head, over what its arguments come to
-abbrev pub list_term : Result Operator Code → (List Node → Outcome (List Meant)) → List Node → Outcome Meant
+-- a list with its head, over what its arguments come to; an empty set has none
+abbrev pub list_term : Result Head Code → (List Node → Outcome (List Meant)) → List Node → Outcome Meant
 list_term (Err fault) arguments bank = Fault fault bank
-list_term (Ok o) arguments bank = bind (arguments bank) (apply o)
+list_term (Ok (heads.Operator o)) arguments bank = bind (arguments bank) (apply o)
+list_term (Ok (heads.EmptySet sort)) arguments bank = empty_set sort bank
 
 abbrev mutual
   -- the sort of a term, its node and its depth
   pub term : Names → Shape → List Node → Outcome Meant
   term names (Single k text start line) bank = token_term names k text bank
-  term names (Listed line parts) bank = list_term (operator_of names parts) (behind_head names parts) bank
+  term names (Listed line parts) bank = list_term (head_of names parts) (behind_head names parts) bank
 
   -- the terms behind the head of a list
   pub behind_head : Names → Shapes → List Node → Outcome (List Meant)

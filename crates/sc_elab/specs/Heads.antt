@@ -1,5 +1,5 @@
--- What heads a list of a term: an operator with as many arguments as it takes, or the fault that comes before the arguments.
-use Rattle.std.specs.Prelude.{ℕ, zero, suc, Bool, true, false, not, ◌&&◌, if◌then◌else◌, List, [], ◌∷◌, codes, Option, Some, None, is_some, Result, Ok, Err}
+-- What heads a list of a term: an operator with as many arguments as it takes, or the form of an empty set, or the fault that comes before the arguments.
+use Rattle.std.specs.Prelude.{ℕ, Bool, true, false, not, ◌&&◌, if◌then◌else◌, List, [], ◌∷◌, codes, Option, Some, None, is_some, Result, Ok, Err}
 use Rattle.std.specs.Str.{bytes_eq}
 use Rattle.sc_text.specs.declared.code.Code.{Code}
 use Rattle.sc_text.specs.declared.code.Code.TheVariants as code
@@ -7,27 +7,20 @@ use Rattle.sc_text.specs.declared.token.Kind.{Kind}
 use Rattle.sc_text.specs.declared.token.Kind.TheVariants as kind
 use Rattle.sc_text.specs.Names.{is_among, is_reserved, is_left_out_operator}
 use Rattle.sc_sexpr.specs.Shapes.{Shape, Single, Listed, Shapes, Empty, More}
+use Rattle.sc_terms.specs.declared.nodes.Sort.{Sort}
 use Rattle.sc_stack.specs.declared.stack.Named.{Named}
 use Rattle.sc_stack.specs.declared.stack.Named.TheVariants as named
 use Rattle.sc_stack.specs.Names.{Names, look_up}
 use Rattle.sc_elab.specs.declared.heads.Awaited.{Awaited}
 use Rattle.sc_elab.specs.declared.heads.Awaited.TheVariants as awaited
+use Rattle.sc_elab.specs.declared.heads.Head.{Head}
+use Rattle.sc_elab.specs.declared.heads.Head.TheVariants as heads
 use Rattle.sc_elab.specs.declared.words.Operator.{Operator}
 use Rattle.sc_elab.specs.declared.words.Word.{Word}
 use Rattle.sc_elab.specs.declared.words.Word.TheVariants as word
+use Rattle.sc_elab.specs.Counts.{count, is_end, is_one}
+use Rattle.sc_elab.specs.Sorts.{list_sort}
 use Rattle.sc_elab.specs.Words.{symbol_name, between, word_of, takes_count}
-
-abbrev pub count : Shapes → ℕ
-count Empty = zero
-count (More s rest) = suc (count rest)
-
-abbrev pub is_end : Shapes → Bool
-is_end Empty = true
-is_end (More s rest) = false
-
-abbrev pub is_one : Shapes → Bool
-is_one Empty = false
-is_one (More s rest) = is_end rest
 
 -- ---- the forms of `let`, `!` and `as`, by what stands behind the word
 -- `(x t)` with a symbol x
@@ -79,24 +72,31 @@ abbrev pub is_annotation : Shapes → Bool
 is_annotation (More t rest) = not (is_end rest) && are_attributes rest
 is_annotation Empty = false
 
--- one list, as in `(as set.empty (Set T))`
-abbrev pub is_list : Shapes → Bool
-is_list (More (Listed line inner) rest) = is_end rest
-is_list rest = false
-
 -- whether a form that is not done is well formed, as a code
 abbrev pub not_done : Bool → Code
 not_done well_formed = if well_formed then code.E8 else code.E5
 
--- an operator that is left out is so in any form of `as`
-abbrev pub as_named : Option (List ℕ) → Shapes → Code
-as_named None rest = code.E5
-as_named (Some name) rest =
-    if is_left_out_operator name then code.E8 else not_done (bytes_eq (codes "set.empty") name && is_list rest)
+-- the empty set of a sort that is read
+abbrev pub empty_of : Result Sort Code → Result Head Code
+empty_of (Ok sort) = Ok (heads.EmptySet sort)
+empty_of (Err fault) = Err fault
 
-abbrev pub as_form : Shapes → Code
-as_form Empty = code.E5
-as_form (More s rest) = as_named (symbol_name s) rest
+-- what stands behind `set.empty`: one list, which is the sort
+abbrev pub empty_form : Names → Shapes → Result Head Code
+empty_form names (More (Listed line inner) rest) = if is_end rest then empty_of (list_sort names inner) else Err code.E5
+empty_form names rest = Err code.E5
+
+-- an operator that is left out is so in any form of `as`
+abbrev pub as_named : Names → Option (List ℕ) → Shapes → Result Head Code
+as_named names None rest = Err code.E5
+as_named names (Some name) rest =
+    if is_left_out_operator name then Err code.E8
+    else if bytes_eq (codes "set.empty") name then empty_form names rest
+    else Err code.E5
+
+abbrev pub as_form : Names → Shapes → Result Head Code
+as_form names Empty = Err code.E5
+as_form names (More s rest) = as_named names (symbol_name s) rest
 
 -- ---- heads
 -- the reserved words that head terms which are left out
@@ -104,13 +104,13 @@ abbrev pub left_out_heads : List (List ℕ)
 left_out_heads = codes "_" ∷ codes "exists" ∷ codes "forall" ∷ codes "match" ∷ codes "par" ∷ []
 
 -- a list headed by a reserved word, by what stands behind it
-abbrev pub reserved_head : List ℕ → Shapes → Code
-reserved_head text rest =
-    if is_among text left_out_heads then code.E8
-    else if bytes_eq (codes "let") text then not_done (is_let rest)
-    else if bytes_eq (codes "!") text then not_done (is_annotation rest)
-    else if bytes_eq (codes "as") text then as_form rest
-    else code.E5
+abbrev pub reserved_head : Names → List ℕ → Shapes → Result Head Code
+reserved_head names text rest =
+    if is_among text left_out_heads then Err code.E8
+    else if bytes_eq (codes "let") text then Err (not_done (is_let rest))
+    else if bytes_eq (codes "!") text then Err (not_done (is_annotation rest))
+    else if bytes_eq (codes "as") text then as_form names rest
+    else Err code.E5
 
 -- a list headed by a list: only one that `_` heads is left out
 abbrev pub list_head : Shapes → Code
@@ -123,26 +123,27 @@ named_head (Some (named.Constant n sort)) = code.E7
 named_head (Some (named.Sort n)) = code.E6
 named_head None = code.E6
 
--- a name in front of so many arguments
-abbrev pub word_head : Names → Word → List ℕ → ℕ → Result Operator Code
-word_head names (word.Operator o) name n = if takes_count o n then Ok o else Err code.E7
+-- a name in front of so many arguments; `set.empty` stands behind `as` alone
+abbrev pub word_head : Names → Word → List ℕ → ℕ → Result Head Code
+word_head names (word.Operator o) name n = if takes_count o n then Ok (heads.Operator o) else Err code.E7
 word_head names word.True name n = Err code.E7
 word_head names word.False name n = Err code.E7
+word_head names word.EmptySet name n = Err code.E7
 word_head names word.Outside name n = Err code.E8
 word_head names word.Free name n = Err (named_head (look_up names name))
 
 -- a token in front of the rest
-abbrev pub token_head : Names → Kind → List ℕ → Shapes → Result Operator Code
-token_head names kind.Word text rest = if is_reserved text then Err (reserved_head text rest) else word_head names (word_of text) text (count rest)
+abbrev pub token_head : Names → Kind → List ℕ → Shapes → Result Head Code
+token_head names kind.Word text rest = if is_reserved text then reserved_head names text rest else word_head names (word_of text) text (count rest)
 token_head names kind.Quoted text rest = word_head names (word_of (between text)) (between text) (count rest)
 token_head names kind.Foreign text rest = Err code.E8
 token_head names k text rest = Err code.E5
 
-abbrev pub head_of : Names → Shape → Shapes → Result Operator Code
-head_of names (Single k text start line) rest = token_head names k text rest
-head_of names (Listed line inner) rest = Err (list_head inner)
+abbrev pub tree_head : Names → Shape → Shapes → Result Head Code
+tree_head names (Single k text start line) rest = token_head names k text rest
+tree_head names (Listed line inner) rest = Err (list_head inner)
 
--- the operator that heads a list, with as many arguments as it takes, or what is wrong before the arguments: the list's own shape, then the name, then the number of arguments
-abbrev pub operator_of : Names → Shapes → Result Operator Code
-operator_of names Empty = Err code.E5
-operator_of names (More head rest) = head_of names head rest
+-- the head of a list, or what is wrong before the arguments: the list's own shape, then the name, then the number of arguments
+abbrev pub head_of : Names → Shapes → Result Head Code
+head_of names Empty = Err code.E5
+head_of names (More head rest) = tree_head names head rest

@@ -2,8 +2,8 @@ pub mod Words
 pub mod States
 pub mod Growth
 pub mod Builds
+pub mod Counts
+pub mod Sorts
 pub mod Heads
 pub mod Elab
-pub mod Sorts
 pub mod Value
-pub mod Boolean

@@ -10,7 +10,7 @@ use Rattle.sc_stack.specs.declared.stack.Named.{Named}
 use Rattle.sc_stack.specs.declared.stack.Named.TheVariants as named
 use Rattle.sc_stack.specs.Names.{Names, look_up}
 use Rattle.sc_elab.specs.Words.{symbol_name}
-use Rattle.sc_elab.specs.Heads.{is_end}
+use Rattle.sc_elab.specs.Counts.{is_end}
 
 -- the declared sort that a name names, made into another by f
 abbrev pub declared_sort : (ℕ → Sort) → Option Named → Result Sort Code

@@ -5,6 +5,7 @@ use Rattle.sc_text.specs.declared.code.Code.TheVariants as code
 use Rattle.sc_terms.specs.declared.nodes.Node.{Node}
 use Rattle.sc_terms.specs.declared.nodes.Node.TheVariants as nodes
 use Rattle.sc_terms.specs.declared.nodes.Formula.{Formula}
+use Rattle.sc_terms.specs.declared.nodes.SetTerm.{SetTerm}
 use Rattle.sc_terms.specs.Bank.{takes, number_of, with_node, limit}
 use Rattle.sc_terms.specs.declared.bank.BankError.{BankError}
 use Rattle.sc_terms.specs.declared.bank.BankError.TheVariants as bank_errors
@@ -41,6 +42,9 @@ put x bank = if takes bank x then Done (number_of bank x) (with_node bank x) els
 
 abbrev pub put_formula : Formula → List Node → Outcome ℕ
 put_formula f bank = put (nodes.Formula f) bank
+
+abbrev pub put_set : SetTerm → List Node → Outcome ℕ
+put_set s bank = put (nodes.Set s) bank
 
 -- what the code answers where the definition has this outcome, and the bank behind it: the same, or want of memory
 abbrev pub Answers : {A : Type 0} → Outcome A → Result A ElabError → List Node → Type 0

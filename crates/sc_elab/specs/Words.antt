@@ -33,6 +33,12 @@ operator_named name =
     else if bytes_eq (codes "distinct") name then Some op.Distinct
     else if bytes_eq (codes "ite") name then Some op.Choice
     else if bytes_eq (codes "set.member") name then Some op.Member
+    else if bytes_eq (codes "set.subset") name then Some op.Subset
+    else if bytes_eq (codes "set.union") name then Some op.Union
+    else if bytes_eq (codes "set.inter") name then Some op.Inter
+    else if bytes_eq (codes "set.minus") name then Some op.Minus
+    else if bytes_eq (codes "set.singleton") name then Some op.Singleton
+    else if bytes_eq (codes "set.insert") name then Some op.Insert
     else None
 
 -- an operator that is not done lies outside, whether it is left out for good or not; every other name is free to be declared
@@ -48,6 +54,7 @@ abbrev pub word_of : List ℕ → Word
 word_of name =
     if bytes_eq (codes "true") name then word.True
     else if bytes_eq (codes "false") name then word.False
+    else if bytes_eq (codes "set.empty") name then word.EmptySet
     else operator_word (operator_named name) name
 
 -- how many arguments an operator takes
@@ -61,3 +68,9 @@ takes_count op.Equal n = nat_le 2 n
 takes_count op.Distinct n = nat_le 2 n
 takes_count op.Choice n = nat_eq n 3
 takes_count op.Member n = nat_eq n 2
+takes_count op.Subset n = nat_eq n 2
+takes_count op.Union n = nat_le 2 n
+takes_count op.Inter n = nat_le 2 n
+takes_count op.Minus n = nat_eq n 2
+takes_count op.Singleton n = nat_eq n 1
+takes_count op.Insert n = nat_le 2 n

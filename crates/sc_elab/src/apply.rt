@@ -28,6 +28,37 @@ fn is_set_of(element: Sort, set: Sort) -> bool
     }
 }
 
+/// Whether a sort is one of sets.
+fn is_sort_of_sets(sort: Sort) -> bool
+    ensures { result ≡ spec.is_sort_of_sets sort }
+{
+    match sort {
+        Sort::SetInt | Sort::SetNamed(_) => true,
+        Sort::Bool | Sort::Int | Sort::Named(_) => false,
+    }
+}
+
+/// Whether things of a sort are elements of sets.
+fn is_sort_of_elements(sort: Sort) -> bool
+    ensures { result ≡ spec.is_sort_of_elements sort }
+{
+    match sort {
+        Sort::Int | Sort::Named(_) => true,
+        Sort::Bool | Sort::SetInt | Sort::SetNamed(_) => false,
+    }
+}
+
+/// The sort of the sets of a sort of elements. Another sort stands for itself.
+fn sort_of_sets(sort: Sort) -> Sort
+    ensures { result ≡ spec.sort_of_sets sort }
+{
+    match sort {
+        Sort::Int => Sort::SetInt,
+        Sort::Named(number) => Sort::SetNamed(number),
+        Sort::Bool | Sort::SetInt | Sort::SetNamed(_) => sort,
+    }
+}
+
 fn is_of(term: &Meant, sort: Sort) -> bool
     ensures { result ≡ same_sort sort term.now.sort }
 {
@@ -69,15 +100,60 @@ fn is_membership(terms: &[Meant]) -> bool
     }
 }
 
+/// Whether all terms are sets of one sort, and there is one.
+fn are_sets(terms: &[Meant]) -> bool
+    ensures { result ≡ spec.are_sets terms.now }
+{
+    match terms {
+        [] => false,
+        [first, rest @ ..] => is_sort_of_sets(first.sort) && all_of(first.sort, rest),
+    }
+}
+
+fn is_single(terms: &[Meant]) -> bool
+    ensures { result ≡ spec.is_single terms.now }
+{
+    match terms {
+        [element] => is_sort_of_elements(element.sort),
+        _ => false,
+    }
+}
+
+/// Whether the terms are elements of a sort, and behind them a set of such.
+fn are_inserted(sort: Sort, terms: &[Meant]) -> bool
+    ensures { result ≡ spec.are_inserted sort terms.now }
+{
+    match terms {
+        [elements @ .., set] => all_of(sort, elements) && is_set_of(sort, set.sort),
+        [] => false,
+    }
+}
+
+/// The sort of the first term.
+fn first_sort(terms: &[Meant]) -> Sort
+    ensures { result ≡ spec.first_sort terms.now }
+{
+    match terms {
+        [] => Sort::Bool,
+        [first, ..] => first.sort,
+    }
+}
+
 /// Whether the sorts of the arguments fit the operator.
 fn fits(operator: Operator, terms: &[Meant]) -> bool
     ensures { result ≡ spec.fits operator terms.now }
 {
     match operator {
+        Operator::Not | Operator::And | Operator::Or | Operator::Implies | Operator::Xor => all_of(
+            Sort::Bool,
+            terms,
+        ),
         Operator::Equal | Operator::Distinct => are_alike(terms),
         Operator::Choice => is_choice(terms),
         Operator::Member => is_membership(terms),
-        _ => all_of(Sort::Bool, terms),
+        Operator::Subset | Operator::Union | Operator::Inter | Operator::Minus => are_sets(terms),
+        Operator::Singleton => is_single(terms),
+        Operator::Insert => are_inserted(first_sort(terms), terms),
     }
 }
 
@@ -86,8 +162,25 @@ fn is_done(operator: Operator, terms: &[Meant]) -> bool
     ensures { result ≡ spec.is_done operator terms.now }
 {
     match operator {
-        Operator::Equal | Operator::Distinct | Operator::Choice => all_of(Sort::Bool, terms),
-        _ => true,
+        Operator::Not | Operator::And | Operator::Or | Operator::Implies | Operator::Xor => true,
+        Operator::Equal | Operator::Distinct => Sort::Int != first_sort(terms),
+        Operator::Choice => all_of(Sort::Bool, terms),
+        Operator::Member | Operator::Subset | Operator::Union | Operator::Inter => true,
+        Operator::Minus | Operator::Singleton | Operator::Insert => true,
+    }
+}
+
+/// The sort of an application, by the sort of its first argument.
+fn sort_made(operator: Operator, sort: Sort) -> Sort
+    ensures { result ≡ spec.sort_made operator sort }
+{
+    match operator {
+        Operator::Not | Operator::And | Operator::Or | Operator::Implies | Operator::Xor =>
+            Sort::Bool,
+        Operator::Equal | Operator::Distinct | Operator::Choice => Sort::Bool,
+        Operator::Member | Operator::Subset => Sort::Bool,
+        Operator::Union | Operator::Inter | Operator::Minus => sort,
+        Operator::Singleton | Operator::Insert => sort_of_sets(sort),
     }
 }
 
@@ -116,7 +209,7 @@ fn numbers(alloc: Global, terms: &[Meant]) -> Result<Numbers, ElabError>
     Ok(made)
 }
 
-/// What is wrong with an application, before its core formula is built.
+/// What is wrong with an application, before its node is built.
 fn application_fault(operator: Operator, terms: &[Meant]) -> Option<Code>
     ensures { result ≡ spec.application_fault operator terms.now }
 {
@@ -133,7 +226,7 @@ fn application_fault(operator: Operator, terms: &[Meant]) -> Option<Code>
 
 /// An application of an operator to arguments that are elaborated. The fault is `E7` where their
 /// sorts don't fit, then `E8` where the operator isn't done for them, then `E16` where the term is
-/// too deep, and then that of building its core formula.
+/// too deep, and then that of building its core formula or set term.
 pub fn apply(
     alloc: Global,
     operator: Operator,
@@ -146,15 +239,17 @@ pub fn apply(
     if let Some(code) = application_fault(operator, terms) {
         return Err(ElabError::Fault(code));
     }
+    let depth = deepest(terms) + 1;
     let arguments = match numbers(alloc, terms) {
         Ok(arguments) => arguments,
         Err(error) => return Err(error),
     };
-    match build(alloc, operator, arguments, bank) {
+    let sort = first_sort(terms);
+    match build(alloc, operator, sort, arguments, bank) {
         Ok(number) => Ok(Meant {
-            sort: Sort::Bool,
+            sort: sort_made(operator, sort),
             number,
-            depth: deepest(terms) + 1,
+            depth,
         }),
         Err(error) => Err(error),
     }

@@ -1,6 +1,6 @@
-//! The core formulas that operators make of their arguments.
+//! The core formulas and set terms that operators make of their arguments.
 //!
-//! Arguments are given by the numbers of their nodes in the bank. A formula's parts are put before it, from left to right. The fault is `E16` where a node is new and the bank is full; what was put before stays.
+//! Arguments are given by the numbers of their nodes in the bank. A node's parts are put before it, from left to right. The fault is `E16` where a node is new and the bank is full; what was put before stays.
 
 ghost use Rattle.std.specs.Prelude.{◌≡◌, ◌<◌, ◌+◌, ◌∷◌, [], ◌++◌, length, drop, IfOk, IfErr, map};
 ghost use Rattle.sc_terms.specs.declared.nodes.Node.TheVariants as nodes;
@@ -8,12 +8,14 @@ ghost use Rattle.sc_terms.specs.Bank.{NodeStands, IsFormulaOf};
 ghost use Rattle.sc_elab.specs.declared.error.ElabError.TheVariants.{Memory};
 ghost use Rattle.sc_elab.specs.States.{Done, bind, each};
 ghost use Rattle.sc_elab.specs.States as states;
-ghost use Rattle.sc_elab.specs.Growth.{Builds, IsCompound, AreFormulas, Suits};
+ghost use Rattle.sc_terms.specs.declared.nodes.Sort.TheVariants as sorts;
+ghost use Rattle.sc_elab.specs.Growth.{Builds, IsCompound, AreFormulas, IsOfSort, AreOfSort, Suits, Makes};
 ghost use Rattle.sc_elab.specs.Builds as spec;
 
 use crate::error::ElabError;
+use crate::set_terms::{Join, grouped, inclusion, insertion, put_set_term};
 use crate::words::Operator;
-use sc_terms::{Bank, BankError, Formula, LIMIT, Numbers, Sequence};
+use sc_terms::{Bank, BankError, Formula, LIMIT, Numbers, Sequence, SetTerm, Sort};
 use sc_text::Code;
 use std::alloc::Global;
 
@@ -63,23 +65,34 @@ fn put_or(alloc: Global, f: u32, g: u32, bank: &mut Bank) -> Result<u32, ElabErr
     }
 }
 
-/// Two formulas agree in truth.
-fn equation(f: u32, g: u32, bank: &mut Bank) -> Result<u32, ElabError>
-    requires f { IsFormulaOf bank.old f }
-    requires g { IsFormulaOf bank.old g }
-    ensures { Builds IsFormulaOf (spec.equation (f, g) bank.old) bank.old result bank.new }
+/// Two things of a sort are equal.
+fn equal(sort: Sort, x: u32, y: u32) -> Formula
+    ensures { result ≡ spec.equal sort x y }
 {
-    put_formula(Formula::Iff(f, g), bank)
+    match sort {
+        Sort::Bool => Formula::Iff(x, y),
+        Sort::Int | Sort::Named(_) => Formula::Eq(x, y),
+        Sort::SetInt | Sort::SetNamed(_) => Formula::EqSet(x, y),
+    }
 }
 
-/// Two formulas differ in truth.
-fn difference(f: u32, g: u32, bank: &mut Bank) -> Result<u32, ElabError>
-    requires f { IsFormulaOf bank.old f }
-    requires g { IsFormulaOf bank.old g }
-    ensures { Builds IsFormulaOf (spec.difference (f, g) bank.old) bank.old result bank.new }
+/// Puts the equation of two things of a sort.
+fn equation(sort: Sort, x: u32, y: u32, bank: &mut Bank) -> Result<u32, ElabError>
+    requires x { IsOfSort bank.old sort x }
+    requires y { IsOfSort bank.old sort y }
+    ensures { Builds IsFormulaOf (spec.equation sort (x, y) bank.old) bank.old result bank.new }
 {
-    match put_formula(Formula::Iff(f, g), bank) {
-        Ok(agree) => put_formula(Formula::Not(agree), bank),
+    put_formula(equal(sort, x, y), bank)
+}
+
+/// Puts that two things of a sort are not equal.
+fn difference(sort: Sort, x: u32, y: u32, bank: &mut Bank) -> Result<u32, ElabError>
+    requires x { IsOfSort bank.old sort x }
+    requires y { IsOfSort bank.old sort y }
+    ensures { Builds IsFormulaOf (spec.difference sort (x, y) bank.old) bank.old result bank.new }
+{
+    match equation(sort, x, y, bank) {
+        Ok(equal) => put_formula(Formula::Not(equal), bank),
         Err(error) => Err(error),
     }
 }
@@ -92,7 +105,7 @@ fn exclusive(first: u32, rest: &[u32], bank: &mut Bank) -> Result<u32, ElabError
 {
     let mut made = first;
     for next in rest {
-        match difference(made, *next, bank) {
+        match difference(Sort::Bool, made, *next, bank) {
             Ok(number) => made = number,
             Err(error) => return Err(error),
         }
@@ -120,15 +133,21 @@ fn negations(alloc: Global, formulas: &[u32], bank: &mut Bank) -> Result<Numbers
 }
 
 /// The equations of neighbours, in order.
-fn equations(alloc: Global, first: u32, rest: &[u32], bank: &mut Bank) -> Result<Numbers, ElabError>
-    requires first { IsFormulaOf bank.old first }
-    requires rest { AreFormulas bank.old rest.now }
-    ensures { Builds AreFormulas (each spec.equation (spec.neighbours (first ∷ rest.now)) bank.old) bank.old result bank.new }
+fn equations(
+    alloc: Global,
+    sort: Sort,
+    first: u32,
+    rest: &[u32],
+    bank: &mut Bank,
+) -> Result<Numbers, ElabError>
+    requires first { IsOfSort bank.old sort first }
+    requires rest { AreOfSort bank.old sort rest.now }
+    ensures { Builds AreFormulas (each (spec.equation sort) (spec.neighbours (first ∷ rest.now)) bank.old) bank.old result bank.new }
 {
     let mut made = Sequence::new(alloc);
     let mut last = first;
     for next in rest {
-        match equation(last, *next, bank) {
+        match equation(sort, last, *next, bank) {
             Ok(number) => {
                 if made.push(number).is_err() {
                     return Err(ElabError::Memory);
@@ -141,20 +160,21 @@ fn equations(alloc: Global, first: u32, rest: &[u32], bank: &mut Bank) -> Result
     Ok(made)
 }
 
-/// The differences of a formula from others, behind those that are made.
+/// The differences of a thing of a sort from others, behind those that are made.
 fn more_differences(
     mut made: Numbers,
+    sort: Sort,
     first: u32,
     others: &[u32],
     bank: &mut Bank,
 ) -> Result<Numbers, ElabError>
     requires made { AreFormulas bank.old made }
-    requires first { IsFormulaOf bank.old first }
-    requires others { AreFormulas bank.old others.now }
-    ensures { Builds AreFormulas (bind (each spec.difference (map (λ y. (first, y)) others.now) bank.old) (λ ns b. Done (made ++ ns) b)) bank.old result bank.new }
+    requires first { IsOfSort bank.old sort first }
+    requires others { AreOfSort bank.old sort others.now }
+    ensures { Builds AreFormulas (bind (each (spec.difference sort) (map (λ y. (first, y)) others.now) bank.old) (λ ns b. Done (made ++ ns) b)) bank.old result bank.new }
 {
     for other in others {
-        match difference(first, *other, bank) {
+        match difference(sort, first, *other, bank) {
             Ok(number) => {
                 if made.push(number).is_err() {
                     return Err(ElabError::Memory);
@@ -166,22 +186,27 @@ fn more_differences(
     Ok(made)
 }
 
-/// The formulas behind the one at an index.
-fn behind(formulas: &[u32], index: usize) -> &[u32]
-    requires { index < length formulas.now }
-    ensures { result.now ≡ drop (index + 1) formulas.now }
+/// The numbers behind the one at an index.
+fn behind(numbers: &[u32], index: usize) -> &[u32]
+    requires { index < length numbers.now }
+    ensures { result.now ≡ drop (index + 1) numbers.now }
 {
-    &formulas[index + 1..]
+    &numbers[index + 1..]
 }
 
-/// The differences of all pairs, those of the first formula first.
-fn differences(alloc: Global, formulas: &[u32], bank: &mut Bank) -> Result<Numbers, ElabError>
-    requires { AreFormulas bank.old formulas.now }
-    ensures { Builds AreFormulas (each spec.difference (spec.pairs formulas.now) bank.old) bank.old result bank.new }
+/// The differences of all pairs of things of a sort, those of the first first.
+fn differences(
+    alloc: Global,
+    sort: Sort,
+    things: &[u32],
+    bank: &mut Bank,
+) -> Result<Numbers, ElabError>
+    requires { AreOfSort bank.old sort things.now }
+    ensures { Builds AreFormulas (each (spec.difference sort) (spec.pairs things.now) bank.old) bank.old result bank.new }
 {
     let mut made = Sequence::new(alloc);
-    for index in 0..formulas.len() {
-        match more_differences(made, formulas[index], behind(formulas, index), bank) {
+    for index in 0..things.len() {
+        match more_differences(made, sort, things[index], behind(things, index), bank) {
             Ok(more) => made = more,
             Err(error) => return Err(error),
         }
@@ -209,7 +234,7 @@ fn disjunctions(
 ) -> Result<u32, ElabError>
     requires negations { AreFormulas bank.old negations.now }
     requires last { IsFormulaOf bank.old last }
-    ensures { Builds IsFormulaOf (spec.nested negations.now last bank.old) bank.old result bank.new }
+    ensures { Builds IsFormulaOf (spec.nested spec.disjunction negations.now last bank.old) bank.old result bank.new }
 {
     let mut made = last;
     for index in (0..negations.len()).rev() {
@@ -235,24 +260,30 @@ fn implication(alloc: Global, formulas: &[u32], bank: &mut Bank) -> Result<u32, 
     }
 }
 
-/// `=`: all neighbours agree.
-fn chain(alloc: Global, first: u32, rest: &[u32], bank: &mut Bank) -> Result<u32, ElabError>
-    requires first { IsFormulaOf bank.old first }
-    requires rest { AreFormulas bank.old rest.now }
-    ensures { Builds IsFormulaOf (spec.chain first rest.now bank.old) bank.old result bank.new }
+/// `=`: all neighbours are equal.
+fn chain(
+    alloc: Global,
+    sort: Sort,
+    first: u32,
+    rest: &[u32],
+    bank: &mut Bank,
+) -> Result<u32, ElabError>
+    requires first { IsOfSort bank.old sort first }
+    requires rest { AreOfSort bank.old sort rest.now }
+    ensures { Builds IsFormulaOf (spec.chain sort first rest.now bank.old) bank.old result bank.new }
 {
-    match equations(alloc, first, rest, bank) {
+    match equations(alloc, sort, first, rest, bank) {
         Ok(made) => conjunction(made, bank),
         Err(error) => Err(error),
     }
 }
 
-/// `distinct`: all pairs differ.
-fn apart(alloc: Global, formulas: &[u32], bank: &mut Bank) -> Result<u32, ElabError>
-    requires { AreFormulas bank.old formulas.now }
-    ensures { Builds IsFormulaOf (spec.apart formulas.now bank.old) bank.old result bank.new }
+/// `distinct`: no two are equal.
+fn apart(alloc: Global, sort: Sort, things: &[u32], bank: &mut Bank) -> Result<u32, ElabError>
+    requires { AreOfSort bank.old sort things.now }
+    ensures { Builds IsFormulaOf (spec.apart sort things.now bank.old) bank.old result bank.new }
 {
-    match differences(alloc, formulas, bank) {
+    match differences(alloc, sort, things, bank) {
         Ok(made) => conjunction(made, bank),
         Err(error) => Err(error),
     }
@@ -283,16 +314,17 @@ fn choice(alloc: Global, c: u32, f: u32, g: u32, bank: &mut Bank) -> Result<u32,
     }
 }
 
-/// The core formula of an operator with as many arguments as it takes, of the right sorts. Another
-/// number of arguments is `E7`.
+/// The core formula or set term of an operator with as many arguments as it takes, of the right
+/// sorts, the first of which has the sort. Another number of arguments is `E7`.
 pub fn build(
     alloc: Global,
     operator: Operator,
+    sort: Sort,
     arguments: Numbers,
     bank: &mut Bank,
 ) -> Result<u32, ElabError>
-    requires { Suits bank.old operator arguments }
-    ensures { Builds IsFormulaOf (spec.build operator arguments bank.old) bank.old result bank.new }
+    requires { Suits bank.old operator sort arguments }
+    ensures { Builds (Makes operator) (spec.build operator sort arguments bank.old) bank.old result bank.new }
 {
     match operator {
         Operator::And => put_formula(Formula::And(arguments), bank),
@@ -307,10 +339,10 @@ pub fn build(
             [] => Err(ElabError::Fault(Code::E7)),
         },
         Operator::Equal => match arguments.as_slice() {
-            [first, rest @ ..] => chain(alloc, *first, rest, bank),
+            [first, rest @ ..] => chain(alloc, sort, *first, rest, bank),
             [] => Err(ElabError::Fault(Code::E7)),
         },
-        Operator::Distinct => apart(alloc, arguments.as_slice(), bank),
+        Operator::Distinct => apart(alloc, sort, arguments.as_slice(), bank),
         Operator::Choice => match arguments.as_slice() {
             [c, f, g] => choice(alloc, *c, *f, *g, bank),
             _ => Err(ElabError::Fault(Code::E7)),
@@ -319,5 +351,26 @@ pub fn build(
             [element, set] => put_formula(Formula::Member(*element, *set), bank),
             _ => Err(ElabError::Fault(Code::E7)),
         },
+        Operator::Subset => match arguments.as_slice() {
+            [s, t] => inclusion(sort, *s, *t, bank),
+            _ => Err(ElabError::Fault(Code::E7)),
+        },
+        Operator::Union => match arguments.as_slice() {
+            [first, rest @ ..] => grouped(Join::Union, *first, rest, bank),
+            [] => Err(ElabError::Fault(Code::E7)),
+        },
+        Operator::Inter => match arguments.as_slice() {
+            [first, rest @ ..] => grouped(Join::Inter, *first, rest, bank),
+            [] => Err(ElabError::Fault(Code::E7)),
+        },
+        Operator::Minus => match arguments.as_slice() {
+            [s, t] => put_set_term(SetTerm::Minus(*s, *t), bank),
+            _ => Err(ElabError::Fault(Code::E7)),
+        },
+        Operator::Singleton => match arguments.as_slice() {
+            [element] => put_set_term(SetTerm::Single(*element), bank),
+            _ => Err(ElabError::Fault(Code::E7)),
+        },
+        Operator::Insert => insertion(alloc, arguments.as_slice(), bank),
     }
 }

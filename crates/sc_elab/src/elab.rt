@@ -17,8 +17,9 @@ ghost use Rattle.sc_elab.specs.Elab as spec;
 use crate::apply::apply;
 use crate::build::{put_error, put_formula};
 use crate::error::ElabError;
-use crate::heads::operator_of;
+use crate::heads::{Head, head_of};
 use crate::meant::Meant;
+use crate::set_terms::put_set_term;
 use crate::words::{Word, between, word_of};
 use sc_sexpr::{Items, Tree};
 use sc_stack::{Named, Stack};
@@ -117,6 +118,32 @@ fn set(number: u32, sort: Sort, stack: &Stack, bank: &mut Bank) -> Result<Meant,
     }
 }
 
+/// The empty set of a sort of sets, behind the guard `true`.
+fn put_empty(sort: Sort, bank: &mut Bank) -> Result<Meant, ElabError>
+    requires { IsSetSort sort }
+    ensures { Builds IsMeant (spec.leaf_value sort (nodes.Set (sets.Empty sort)) bank.old) bank.old result bank.new }
+{
+    match put_formula(Formula::True, bank) {
+        Ok(_) => match put_set_term(SetTerm::Empty(sort), bank) {
+            Ok(number) => Ok(leaf(sort, number)),
+            Err(error) => Err(error),
+        },
+        Err(error) => Err(error),
+    }
+}
+
+/// The empty set of a sort. Sets of integers are not done.
+fn empty_set(sort: Sort, bank: &mut Bank) -> Result<Meant, ElabError>
+    ensures { Builds IsMeant (spec.empty_set sort bank.old) bank.old result bank.new }
+{
+    match sort {
+        Sort::SetNamed(_) => put_empty(sort, bank),
+        Sort::SetInt | Sort::Bool | Sort::Int | Sort::Named(_) => {
+            Err(ElabError::Fault(Code::E8))
+        }
+    }
+}
+
 /// A constant. Integers and their sets are not done.
 fn constant(number: u32, sort: Sort, stack: &Stack, bank: &mut Bank) -> Result<Meant, ElabError>
     requires { item_at (sorts_of stack.now) number ≡ Some sort }
@@ -147,7 +174,7 @@ fn name_term(name: &[u8], stack: &Stack, bank: &mut Bank) -> Result<Meant, ElabE
     match word_of(name) {
         Word::True => leaf_formula(Formula::True, bank),
         Word::False => leaf_formula(Formula::False, bank),
-        Word::Operator(_) => Err(ElabError::Fault(Code::E7)),
+        Word::Operator(_) | Word::EmptySet => Err(ElabError::Fault(Code::E7)),
         Word::Outside => Err(ElabError::Fault(Code::E8)),
         Word::Free => declared_name(name, stack, bank),
     }
@@ -180,8 +207,9 @@ fn term(alloc: Global, tree: &Tree<'_>, stack: &Stack, bank: &mut Bank) -> Resul
 {
     match tree {
         Tree::Leaf(token) => token_term(token, stack, bank),
-        Tree::List(items) => match operator_of(items.trees.as_slice(), stack) {
-            Ok(operator) => match arguments(alloc, items, stack, bank) {
+        Tree::List(items) => match head_of(items.trees.as_slice(), stack) {
+            Ok(Head::EmptySet(sort)) => empty_set(sort, bank),
+            Ok(Head::Operator(operator)) => match arguments(alloc, items, stack, bank) {
                 Ok(terms) => apply(alloc, operator, terms.as_slice(), bank),
                 Err(error) => Err(error),
             },
@@ -215,19 +243,21 @@ fn arguments(
     Ok(made)
 }
 
-/// The number of the core formula of a term of sort Bool: terms of SMT-LIB 2.6, with `set.member`
-/// of cvc5's theory of sets. The formula's nodes are put into the bank, the parts of each before it
-/// and from left to right; equal nodes are one.
+/// The number of the core formula of a term of sort Bool: terms of SMT-LIB 2.6, with the operators
+/// of cvc5's theory of finite sets. The formula's nodes are put into the bank, the parts of each
+/// before it and from left to right; equal nodes are one.
 ///
 /// The fault is the first one, depth first: the list's own shape (`E8`, `E5`), the name in front
 /// (`E8`, `E6`), the number of arguments (`E7`), the arguments from left to right, the sorts of the
 /// arguments (`E7`), an operator that isn't done for them (`E8`), a depth of more than 1,000 (`E16`),
 /// and a new node where the bank holds 200,000 (`E16`). A term of another sort than Bool is `E7` at
-/// the end.
+/// the end. In `(as set.empty S)` the shape is `E5` where S is no list, and then the sort has its own
+/// fault.
 ///
 /// These are not done, and `E8` at the name in front, or at the leaf: integers and their sets,
-/// `let`, `!` and `as` where they are well formed, and all operators but `not`, `and`, `or`, `=>`,
-/// `xor`, `=`, `distinct`, `ite` and `set.member`; `=`, `distinct` and `ite` are done of Bool alone.
+/// `let` and `!` where they are well formed, and all operators but `not`, `and`, `or`, `=>`,
+/// `xor`, `=`, `distinct`, `ite`, `set.member`, `set.subset`, `set.union`, `set.inter`, `set.minus`,
+/// `set.singleton`, `set.insert` and `set.empty`; `ite` is done of Bool alone.
 ///
 /// Nodes that were put before a fault, or before memory was wanting, stay.
 pub fn elaborate(

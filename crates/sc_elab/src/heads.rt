@@ -5,11 +5,14 @@ ghost use Rattle.std.specs.List.{list_all, list_any};
 ghost use Rattle.sc_sexpr.specs.Shapes.{shape, shapes_of};
 ghost use Rattle.std.specs.Str.{bytes_eq};
 ghost use Rattle.sc_elab.specs.Words.{word_of};
+ghost use Rattle.sc_elab.specs.Counts as counts;
 ghost use Rattle.sc_elab.specs.Heads as spec;
 
+use crate::sorts::list_sort;
 use crate::words::{Operator, Word, between, is_word, symbol_name, takes_count, word_of};
 use sc_sexpr::Tree;
 use sc_stack::{Named, Stack};
+use sc_terms::Sort;
 use sc_text::{Code, Kind, Token, is_left_out_operator, is_reserved};
 
 /// What is awaited next among the attributes of an annotation.
@@ -23,6 +26,15 @@ pub enum Awaited {
     Symbol,
 }
 
+/// What heads a list that is a term.
+#[derive(Clone, Copy)]
+pub enum Head {
+    /// An operator, with as many arguments as it takes.
+    Operator(Operator),
+    /// The list is the empty set of a sort of sets.
+    EmptySet(Sort),
+}
+
 /// The reserved words that head terms which are left out.
 const LEFT_OUT_HEADS: [&str; 5] = ["_", "exists", "forall", "match", "par"];
 
@@ -34,7 +46,7 @@ fn is_among(word: &[u8], words: &[&str]) -> bool
 
 /// Whether there is no tree.
 pub fn is_end(trees: &[Tree<'_>]) -> bool
-    ensures { result ≡ spec.is_end (shapes_of (map shape trees.now)) }
+    ensures { result ≡ counts.is_end (shapes_of (map shape trees.now)) }
 {
     match trees {
         [] => true,
@@ -44,7 +56,7 @@ pub fn is_end(trees: &[Tree<'_>]) -> bool
 
 /// Whether there is one tree.
 fn is_one(trees: &[Tree<'_>]) -> bool
-    ensures { result ≡ spec.is_one (shapes_of (map shape trees.now)) }
+    ensures { result ≡ counts.is_one (shapes_of (map shape trees.now)) }
 {
     match trees {
         [] => false,
@@ -135,40 +147,49 @@ fn is_annotation(trees: &[Tree<'_>]) -> bool
     !is_end(attributes) && are_attributes(attributes)
 }
 
-/// Whether the trees are one list.
+/// The empty set whose sort the trees are, as they stand behind `set.empty`.
 #[tactic(auto, using(crate::proofs::Shaped::listed))]
-fn is_list(trees: &[Tree<'_>]) -> bool
-    ensures { result ≡ spec.is_list (shapes_of (map shape trees.now)) }
+fn empty_form(trees: &[Tree<'_>], stack: &Stack) -> Result<Head, Code>
+    ensures { result ≡ spec.empty_form stack.now (shapes_of (map shape trees.now)) }
 {
     let [first, rest @ ..] = trees else {
-        return false;
+        return Err(Code::E5);
     };
     match first {
-        Tree::Leaf(_) => false,
-        Tree::List(_) => is_end(rest),
+        Tree::Leaf(_) => Err(Code::E5),
+        Tree::List(items) => {
+            if is_end(rest) {
+                list_sort(items.as_slice(), stack).map(Head::EmptySet)
+            } else {
+                Err(Code::E5)
+            }
+        }
     }
 }
 
-/// The code of a list headed by `as` with a name behind it.
-fn as_named(name: &[u8], rest: &[Tree<'_>]) -> Code
-    ensures { result ≡ spec.as_named (Some name.now) (shapes_of (map shape rest.now)) }
+/// What a list is that is headed by `as` with a name behind it.
+fn as_named(name: &[u8], rest: &[Tree<'_>], stack: &Stack) -> Result<Head, Code>
+    ensures { result ≡ spec.as_named stack.now (Some name.now) (shapes_of (map shape rest.now)) }
 {
     if is_left_out_operator(name) {
-        return Code::E8;
+        Err(Code::E8)
+    } else if is_word(name, "set.empty") {
+        empty_form(rest, stack)
+    } else {
+        Err(Code::E5)
     }
-    not_done(is_word(name, "set.empty") && is_list(rest))
 }
 
-/// The code of a list headed by `as`.
-fn as_form(trees: &[Tree<'_>]) -> Code
-    ensures { result ≡ spec.as_form (shapes_of (map shape trees.now)) }
+/// What a list is that is headed by `as`.
+fn as_form(trees: &[Tree<'_>], stack: &Stack) -> Result<Head, Code>
+    ensures { result ≡ spec.as_form stack.now (shapes_of (map shape trees.now)) }
 {
     let [first, rest @ ..] = trees else {
-        return Code::E5;
+        return Err(Code::E5);
     };
     match symbol_name(first) {
-        Some(name) => as_named(name, rest),
-        None => Code::E5,
+        Some(name) => as_named(name, rest, stack),
+        None => Err(Code::E5),
     }
 }
 
@@ -179,20 +200,20 @@ fn not_done(well_formed: bool) -> Code
     if well_formed { Code::E8 } else { Code::E5 }
 }
 
-/// The code of a list headed by a reserved word.
-fn reserved_head(word: &[u8], rest: &[Tree<'_>]) -> Code
-    ensures { result ≡ spec.reserved_head word.now (shapes_of (map shape rest.now)) }
+/// What a list is that is headed by a reserved word.
+fn reserved_head(word: &[u8], rest: &[Tree<'_>], stack: &Stack) -> Result<Head, Code>
+    ensures { result ≡ spec.reserved_head stack.now word.now (shapes_of (map shape rest.now)) }
 {
     if is_among(word, &LEFT_OUT_HEADS) {
-        Code::E8
+        Err(Code::E8)
     } else if is_word(word, "let") {
-        not_done(is_let(rest))
+        Err(not_done(is_let(rest)))
     } else if is_word(word, "!") {
-        not_done(is_annotation(rest))
+        Err(not_done(is_annotation(rest)))
     } else if is_word(word, "as") {
-        as_form(rest)
+        as_form(rest, stack)
     } else {
-        Code::E5
+        Err(Code::E5)
     }
 }
 
@@ -219,33 +240,33 @@ fn named_head(found: Option<Named>) -> Code
     }
 }
 
-/// The operator of a name in front of so many arguments.
-fn word_head(name: &[u8], count: usize, stack: &Stack) -> Result<Operator, Code>
+/// The head that a name is in front of so many arguments.
+fn word_head(name: &[u8], count: usize, stack: &Stack) -> Result<Head, Code>
     ensures { result ≡ spec.word_head stack.now (word_of name.now) name.now count }
 {
     match word_of(name) {
         Word::Operator(operator) => {
             if takes_count(operator, count) {
-                Ok(operator)
+                Ok(Head::Operator(operator))
             } else {
                 Err(Code::E7)
             }
         }
-        Word::True | Word::False => Err(Code::E7),
+        Word::True | Word::False | Word::EmptySet => Err(Code::E7),
         Word::Outside => Err(Code::E8),
         Word::Free => Err(named_head(stack.look_up(name))),
     }
 }
 
-/// The operator of a token in front of the rest.
+/// The head that a token is in front of the rest.
 #[tactic(auto, using(crate::proofs::Shaped::counted))]
-fn token_head(token: &Token<'_>, rest: &[Tree<'_>], stack: &Stack) -> Result<Operator, Code>
+fn token_head(token: &Token<'_>, rest: &[Tree<'_>], stack: &Stack) -> Result<Head, Code>
     ensures { result ≡ spec.token_head stack.now token.now.kind token.now.text.now (shapes_of (map shape rest.now)) }
 {
     match token.kind {
         Kind::Word => {
             if is_reserved(token.text) {
-                Err(reserved_head(token.text, rest))
+                reserved_head(token.text, rest, stack)
             } else {
                 word_head(token.text, rest.len(), stack)
             }
@@ -256,11 +277,10 @@ fn token_head(token: &Token<'_>, rest: &[Tree<'_>], stack: &Stack) -> Result<Ope
     }
 }
 
-/// The operator that heads a list, with as many arguments as it takes, or the code of what is wrong
-/// before the arguments.
+/// The head of a list, or the code of what is wrong before the arguments.
 #[tactic(auto, using(crate::proofs::Shaped::listed))]
-pub fn operator_of(trees: &[Tree<'_>], stack: &Stack) -> Result<Operator, Code>
-    ensures { result ≡ spec.operator_of stack.now (shapes_of (map shape trees.now)) }
+pub fn head_of(trees: &[Tree<'_>], stack: &Stack) -> Result<Head, Code>
+    ensures { result ≡ spec.head_of stack.now (shapes_of (map shape trees.now)) }
 {
     let [head, rest @ ..] = trees else {
         return Err(Code::E5);

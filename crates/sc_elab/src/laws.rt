@@ -1,15 +1,18 @@
 //! Laws of elaboration.
 
 ghost use Rattle.std.specs.Prelude.{◌≡◌, ℕ, List, Ok};
+ghost use Rattle.sc_text.specs.declared.code.Code.{Code};
 ghost use Rattle.sc_sexpr.specs.Shapes.{Shape};
 ghost use Rattle.sc_terms.specs.declared.nodes.Node.{Node};
 ghost use Rattle.sc_terms.specs.declared.nodes.Sort.{Sort};
 ghost use Rattle.sc_terms.specs.Bank.{IsBank, Begins, IsFormulaOf, HasSorts};
 ghost use Rattle.sc_terms.specs.BankValues.{bank_meaning};
 ghost use Rattle.sc_terms.specs.Meaning.{Interpretation, IsInterpretation};
+ghost use Rattle.sc_sorts.specs.Pure.{IsPureBank};
+ghost use Rattle.sc_sorts.specs.Sorted.{IsWellSortedBank};
 ghost use Rattle.sc_stack.specs.declared.stack.Constant.{Constant};
 ghost use Rattle.sc_stack.specs.Names.{Names, IsSort, sorts_of, with_sort, with_constant};
-ghost use Rattle.sc_elab.specs.States.{State, Done};
+ghost use Rattle.sc_elab.specs.States.{State, Done, Fault};
 ghost use Rattle.sc_elab.specs.Elab.{core};
 ghost use Rattle.sc_elab.specs.Sorts.{sort_of};
 ghost use Rattle.sc_elab.specs.Value.{Truth, truth, term_value};
@@ -37,6 +40,16 @@ pub fn elaboration_grows_bank()
     meanings_stay();
     bank_with_node();
     bank_grows();
+}
+
+/// A bank without integers stays so behind the elaboration of a term, whether this makes a formula or ends at a fault, and a well-sorted bank stays well sorted.
+pub fn elaboration_stays_pure()
+    ensures pure_done { (t : Shape) (s : State) (n : ℕ) (bank : List Node) → IsPureBank s.bank → core t s ≡ Done n bank → IsPureBank bank }
+    ensures pure_fault { (t : Shape) (s : State) (code : Code) (bank : List Node) → IsPureBank s.bank → core t s ≡ Fault code bank → IsPureBank bank }
+    ensures sorted_done { (t : Shape) (s : State) (n : ℕ) (bank : List Node) → IsBank s.bank → IsWellSortedBank s.bank → core t s ≡ Done n bank → IsWellSortedBank bank }
+    ensures sorted_fault { (t : Shape) (s : State) (code : Code) (bank : List Node) → IsBank s.bank → IsWellSortedBank s.bank → core t s ≡ Fault code bank → IsWellSortedBank bank }
+{
+    bank_with_node();
 }
 
 /// A sort that is read is built in, or made of a sort that was declared, so that constants of it may be.

@@ -2,24 +2,25 @@
 #![tactic(auto)]
 
 mod apply;
-mod boolean;
 mod build;
 mod elab;
 mod error;
 mod heads;
 mod laws;
 mod meant;
+mod set_terms;
 mod sorts;
 mod words;
 
-pub use boolean::elaboration_stays_boolean;
 pub use elab::elaborate;
 pub use error::ElabError;
 pub use laws::{
     declarations_keep_sorts, elaboration_grows_bank, elaboration_keeps_meaning,
-    read_sorts_are_declared,
+    elaboration_stays_pure, read_sorts_are_declared,
 };
 pub use sorts::read_sort;
 
+#[cfg(test)]
+mod tables;
 #[cfg(test)]
 mod tests;

@@ -69,7 +69,7 @@ fn sets_of_parts(trees: &[Tree<'_>], stack: &Stack) -> Result<Sort, Code>
 }
 
 /// The sort that a list is.
-fn list_sort(trees: &[Tree<'_>], stack: &Stack) -> Result<Sort, Code>
+pub fn list_sort(trees: &[Tree<'_>], stack: &Stack) -> Result<Sort, Code>
     ensures { result ≡ spec.list_sort stack.now (shapes_of (map shape trees.now)) }
 {
     let [head, rest @ ..] = trees else {

@@ -4,187 +4,16 @@ ghost use Rattle.std.specs.Prelude.{IfSome, IfOk};
 ghost use Rattle.sc_stack.specs.Names.{IsSort};
 
 use super::*;
+use crate::tables::{
+    CONSTANTS, ELEMENTS, EQUATIONS, FORMS, JOINS, NODES, OPERATORS, SORTS, TOKENS_AND_HEADS,
+};
 use sc_sexpr::{Item, Splitter, read_tree};
 use sc_stack::Stack;
-use sc_terms::{Bank, Sort};
+use sc_terms::{Bank, Element, Formula, Node, SetTerm, Sort};
 use sc_text::Code;
 use std::alloc::Global;
 use std::process::Abort;
 use std::test::Fail;
-
-/// Constants, and their sorts.
-const CONSTANTS: [(&str, &str); 8] = [
-    ("p", "Bool "),
-    ("q", "|Bool| "),
-    ("r", "Bool "),
-    ("x", "U "),
-    ("y", "U "),
-    ("v", "V "),
-    ("A", "(Set U)"),
-    ("B", "(|Set| |U|)"),
-];
-
-/// Terms of one token, and lists by what heads them.
-const TOKENS_AND_HEADS: [(&str, &str); 44] = [
-    ("true ", "1 of 1"),
-    ("|false| ", "1 of 1"),
-    ("p ", "1 of 1"),
-    ("|p| ", "1 of 1"),
-    ("x ", "E7 at 2"),
-    ("A ", "E7 at 2"),
-    ("i ", "E8 at 0"),
-    ("S ", "E8 at 0"),
-    ("U ", "E6 at 0"),
-    ("z ", "E6 at 0"),
-    ("Bool ", "E6 at 0"),
-    ("member ", "E6 at 0"),
-    ("and ", "E7 at 0"),
-    ("set.union ", "E8 at 0"),
-    ("set.universe ", "E8 at 0"),
-    ("let ", "E5 at 0"),
-    ("3 ", "E8 at 0"),
-    ("#b0 ", "E8 at 0"),
-    ("\"a\" ", "E8 at 0"),
-    (":k ", "E8 at 0"),
-    ("()", "E5 at 0"),
-    ("(() p)", "E5 at 0"),
-    ("((_ f) p)", "E8 at 0"),
-    ("((forall f) p)", "E5 at 0"),
-    ("((as f U) p)", "E5 at 0"),
-    ("(_ p)", "E8 at 0"),
-    ("(exists p)", "E8 at 0"),
-    ("(assert p)", "E5 at 0"),
-    ("(3 p)", "E5 at 0"),
-    ("(2.6 p)", "E8 at 0"),
-    ("(\"a\" p)", "E5 at 0"),
-    ("(:k p)", "E5 at 0"),
-    ("(p)", "E7 at 0"),
-    ("(true p)", "E7 at 0"),
-    ("(U p)", "E6 at 0"),
-    ("(z p)", "E6 at 0"),
-    ("(|let| p)", "E6 at 0"),
-    ("(|and| p q)", "3 of 3"),
-    ("(+ 1 z)", "E8 at 0"),
-    ("(set.card A)", "E8 at 0"),
-    ("(set.universe)", "E8 at 0"),
-    ("(member x A)", "E6 at 0"),
-    ("(div 1 2)", "E8 at 0"),
-    ("(/ 1 2)", "E6 at 0"),
-];
-
-/// Lists headed by `let`, `!` and `as`.
-const FORMS: [(&str, &str); 24] = [
-    ("(let ((a z)) z)", "E8 at 0"),
-    ("(let ((a p) (|let| q)) p)", "E8 at 0"),
-    ("(let () p)", "E5 at 0"),
-    ("(let ((a)) p)", "E5 at 0"),
-    ("(let ((a p q)) p)", "E5 at 0"),
-    ("(let ((let p)) p)", "E5 at 0"),
-    ("(let ((a p) b) p)", "E5 at 0"),
-    ("(let ((a p)))", "E5 at 0"),
-    ("(let a p)", "E5 at 0"),
-    ("(! p)", "E5 at 0"),
-    ("(! p q)", "E5 at 0"),
-    ("(! z :k)", "E8 at 0"),
-    ("(! p :k 1 :l :m (let))", "E8 at 0"),
-    ("(! p :k 1 2)", "E5 at 0"),
-    ("(! p :named a)", "E8 at 0"),
-    ("(! p :named)", "E5 at 0"),
-    ("(! p :named :k)", "E5 at 0"),
-    ("(! p :named 1)", "E5 at 0"),
-    ("(as set.empty (Set U))", "E8 at 0"),
-    ("(as set.empty U)", "E5 at 0"),
-    ("(as set.empty (Set U) p)", "E5 at 0"),
-    ("(as set.universe)", "E8 at 0"),
-    ("(as x U)", "E5 at 0"),
-    ("(as)", "E5 at 0"),
-];
-
-/// Applications of each operator that is done.
-const OPERATORS: [(&str, &str); 60] = [
-    ("(not)", "E7 at 0"),
-    ("(not p)", "2 of 2"),
-    ("(not p z)", "E7 at 0"),
-    ("(not x)", "E7 at 2"),
-    ("(and)", "E7 at 0"),
-    ("(and p)", "2 of 2"),
-    ("(and p p)", "2 of 2"),
-    ("(and p q r)", "4 of 4"),
-    ("(and x p)", "E7 at 3"),
-    ("(and p x)", "E7 at 3"),
-    ("(or)", "E7 at 0"),
-    ("(or p)", "2 of 2"),
-    ("(or p q r)", "4 of 4"),
-    ("(or A p)", "E7 at 3"),
-    ("(or p A)", "E7 at 3"),
-    ("(=> p)", "E7 at 0"),
-    ("(=> p q)", "4 of 4"),
-    ("(=> p p)", "3 of 3"),
-    ("(=> p q r)", "7 of 7"),
-    ("(=> x p)", "E7 at 3"),
-    ("(=> p x)", "E7 at 3"),
-    ("(xor p)", "E7 at 0"),
-    ("(xor p q)", "4 of 4"),
-    ("(xor p q r)", "7 of 7"),
-    ("(xor x p)", "E7 at 3"),
-    ("(xor p x)", "E7 at 3"),
-    ("(= p)", "E7 at 0"),
-    ("(= p q)", "3 of 3"),
-    ("(= p q r)", "6 of 6"),
-    ("(= p p p)", "3 of 3"),
-    ("(= p x)", "E7 at 3"),
-    ("(= x y p)", "E7 at 4"),
-    ("(= x v)", "E7 at 3"),
-    ("(= x y)", "E8 at 3"),
-    ("(= A B A)", "E8 at 3"),
-    ("(distinct p)", "E7 at 0"),
-    ("(distinct p q)", "4 of 4"),
-    ("(distinct p q r)", "10 of 10"),
-    ("(distinct x p)", "E7 at 3"),
-    ("(distinct p q x)", "E7 at 4"),
-    ("(distinct x y)", "E8 at 3"),
-    ("(ite p q)", "E7 at 0"),
-    ("(ite p q r)", "7 of 7"),
-    ("(ite p q r p)", "E7 at 0"),
-    ("(ite x p q)", "E7 at 4"),
-    ("(ite p q x)", "E7 at 4"),
-    ("(ite p x y)", "E8 at 4"),
-    ("(ite p A v)", "E7 at 4"),
-    ("(set.member x)", "E7 at 0"),
-    ("(set.member x A)", "4 of 4"),
-    ("(set.member x A B)", "E7 at 0"),
-    ("(set.member v A)", "E7 at 3"),
-    ("(set.member x y)", "E7 at 3"),
-    ("(set.member p A)", "E7 at 3"),
-    ("(and z (not))", "E6 at 0"),
-    ("(and p (not) z)", "E7 at 1"),
-    ("(and x z)", "E6 at 2"),
-    ("(and p (let) x)", "E5 at 1"),
-    ("(and (or p q) (not (or p q)))", "5 of 5"),
-    ("(set.member (ite p x y) A)", "E8 at 4"),
-];
-
-/// Sorts that have a fault.
-const SORTS: [(&str, &str); 18] = [
-    ("Int ", "E8"),
-    ("z ", "E6"),
-    ("p ", "E6"),
-    ("Set ", "E6"),
-    ("let ", "E5"),
-    ("3 ", "E5"),
-    ("\"U\" ", "E5"),
-    (":U ", "E5"),
-    ("2.6 ", "E5"),
-    ("()", "E8"),
-    ("(Set)", "E8"),
-    ("(Set Int)", "E8"),
-    ("(Set Bool)", "E8"),
-    ("(Set (Set U))", "E8"),
-    ("(Set U U)", "E8"),
-    ("(Set 3)", "E8"),
-    ("(Set z)", "E6"),
-    ("(U Set)", "E8"),
-];
 
 fn word(code: Code) -> &'static str {
     match code {
@@ -292,6 +121,96 @@ fn operators(rt: HostRuntime) -> Result<(), Fail> {
     tell_all(&rt, rt.alloc(), &stack, &OPERATORS)
 }
 
+#[test]
+fn equations(rt: HostRuntime) -> Result<(), Fail> {
+    let stack = names(&rt, rt.alloc());
+    tell_all(&rt, rt.alloc(), &stack, &EQUATIONS)
+}
+
+#[test]
+fn joins(rt: HostRuntime) -> Result<(), Fail> {
+    let stack = names(&rt, rt.alloc());
+    tell_all(&rt, rt.alloc(), &stack, &JOINS)
+}
+
+#[test]
+fn elements(rt: HostRuntime) -> Result<(), Fail> {
+    let stack = names(&rt, rt.alloc());
+    tell_all(&rt, rt.alloc(), &stack, &ELEMENTS)
+}
+
+/// A node, by a word and the numbers of its parts.
+fn node_text(alloc: Global, node: &Node) -> Result<String, Fail> {
+    let (word, parts) = match node {
+        Node::Formula(Formula::True) => ("true", (None, None)),
+        Node::Formula(Formula::Not(f)) => ("not", (Some(*f), None)),
+        Node::Formula(Formula::And(_)) => ("and", (None, None)),
+        Node::Formula(Formula::Eq(e, f)) => ("eq", (Some(*e), Some(*f))),
+        Node::Formula(Formula::EqSet(s, t)) => ("same", (Some(*s), Some(*t))),
+        Node::Formula(Formula::Member(e, s)) => ("in", (Some(*e), Some(*s))),
+        Node::Set(SetTerm::Const(c, _)) => ("set", (Some(*c), None)),
+        Node::Set(SetTerm::Empty(_)) => ("empty", (None, None)),
+        Node::Set(SetTerm::Single(e)) => ("single", (Some(*e), None)),
+        Node::Set(SetTerm::Union(s, t)) => ("union", (Some(*s), Some(*t))),
+        Node::Set(SetTerm::Inter(s, t)) => ("inter", (Some(*s), Some(*t))),
+        Node::Set(SetTerm::Minus(s, t)) => ("minus", (Some(*s), Some(*t))),
+        Node::Element(Element::Const(c, _)) => ("element", (Some(*c), None)),
+        _ => ("another", (None, None)),
+    };
+    match parts {
+        (Some(a), Some(b)) => Ok(format!(in alloc; "{word} {a} {b}")?),
+        (Some(a), None) => Ok(format!(in alloc; "{word} {a}")?),
+        _ => Ok(format!(in alloc; "{word}")?),
+    }
+}
+
+/// The first nodes of a bank, in order.
+fn bank_text(alloc: Global, bank: &Bank) -> Result<String, Fail> {
+    let mut out = String::new(alloc);
+    for index in 0..20_u32 {
+        if (index as usize) < bank.len() {
+            if index > 0 {
+                out.push_str(", ")?;
+            }
+            out.push_str(node_text(alloc, bank.node_at(index + 1))?.as_str())?;
+        }
+    }
+    Ok(out)
+}
+
+/// The nodes of the bank behind the first item of a text.
+fn nodes_told(alloc: Global, stack: &Stack, text: &[u8]) -> Result<String, Fail> {
+    let mut bank = Bank::new(alloc);
+    let mut splitter = Splitter::new(alloc, 1_000_000);
+    if splitter.feed(text).is_err() {
+        return Ok(format!(in alloc; "no memory")?);
+    }
+    let Item::Top { line } = splitter.next_item() else {
+        return Ok(format!(in alloc; "no item")?);
+    };
+    let done = match read_tree(alloc, splitter.item(), line) {
+        Ok(tree) => elaborate(alloc, &tree, stack, &mut bank).is_ok(),
+        Err(_) => false,
+    };
+    if done {
+        bank_text(alloc, &bank)
+    } else {
+        Ok(format!(in alloc; "no formula")?)
+    }
+}
+
+#[test]
+fn nodes_in_order(rt: HostRuntime) -> Result<(), Fail> {
+    let stack = names(&rt, rt.alloc());
+    for (text, wanted) in NODES {
+        assert_eq!(rt;
+            nodes_told(rt.alloc(), &stack, text.as_bytes())?.as_str(),
+            wanted
+        );
+    }
+    Ok(())
+}
+
 fn tell_sorts(rt: &impl Abort, alloc: Global, stack: &Stack, cases: &[(&str, &str)]) {
     for (text, wanted) in cases {
         match sort_in(alloc, stack, text.as_bytes()) {
@@ -330,6 +249,12 @@ fn negated(alloc: Global, count: usize) -> Result<String, Fail> {
     repeated(alloc, opened.as_str(), ")", count, "")
 }
 
+/// An inclusion of so many unions, each within the one before.
+fn united(alloc: Global, count: usize) -> Result<String, Fail> {
+    let opened = repeated(alloc, "(set.subset ", "(set.union A ", count, "B")?;
+    repeated(alloc, opened.as_str(), ")", count, " A)")
+}
+
 #[test]
 fn deep_terms(rt: HostRuntime) -> Result<(), Fail> {
     let alloc = rt.alloc();
@@ -344,6 +269,16 @@ fn deep_terms(rt: HostRuntime) -> Result<(), Fail> {
         told(alloc, &stack, deeper.as_bytes())?.as_str(),
         "E16 of depth at 1000"
     );
+    let unions = united(alloc, 998)?;
+    assert_eq!(rt;
+        told(alloc, &stack, unions.as_bytes())?.as_str(),
+        "1004 of 1004"
+    );
+    let more_unions = united(alloc, 999)?;
+    assert_eq!(rt;
+        told(alloc, &stack, more_unions.as_bytes())?.as_str(),
+        "E16 of depth at 1002"
+    );
     Ok(())
 }
 
@@ -357,6 +292,11 @@ fn many_arguments(rt: HostRuntime) -> Result<(), Fail> {
     assert_eq!(rt;
         told(alloc, &stack, chained.as_bytes())?.as_str(),
         "10004 of 10004"
+    );
+    let union = repeated(alloc, "(set.subset (set.union A", " B", 10_000, ") A)")?;
+    assert_eq!(rt;
+        told(alloc, &stack, union.as_bytes())?.as_str(),
+        "10006 of 10006"
     );
     Ok(())
 }

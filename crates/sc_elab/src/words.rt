@@ -29,6 +29,18 @@ pub enum Operator {
     Choice,
     /// `set.member`.
     Member,
+    /// `set.subset`.
+    Subset,
+    /// `set.union`.
+    Union,
+    /// `set.inter`.
+    Inter,
+    /// `set.minus`.
+    Minus,
+    /// `set.singleton`.
+    Singleton,
+    /// `set.insert`.
+    Insert,
 }
 
 /// What a name is by itself.
@@ -38,6 +50,8 @@ pub enum Word {
     True,
     /// `false`.
     False,
+    /// `set.empty`, which stands in `(as set.empty (Set T))` alone.
+    EmptySet,
     /// An operator that is done.
     Operator(Operator),
     /// An operator that is not done.
@@ -98,6 +112,18 @@ fn operator_named(name: &[u8]) -> Option<Operator>
         Some(Operator::Choice)
     } else if is_word(name, "set.member") {
         Some(Operator::Member)
+    } else if is_word(name, "set.subset") {
+        Some(Operator::Subset)
+    } else if is_word(name, "set.union") {
+        Some(Operator::Union)
+    } else if is_word(name, "set.inter") {
+        Some(Operator::Inter)
+    } else if is_word(name, "set.minus") {
+        Some(Operator::Minus)
+    } else if is_word(name, "set.singleton") {
+        Some(Operator::Singleton)
+    } else if is_word(name, "set.insert") {
+        Some(Operator::Insert)
     } else {
         None
     }
@@ -122,6 +148,8 @@ pub fn word_of(name: &[u8]) -> Word
         Word::True
     } else if is_word(name, "false") {
         Word::False
+    } else if is_word(name, "set.empty") {
+        Word::EmptySet
     } else {
         match operator_named(name) {
             Some(operator) => Word::Operator(operator),
@@ -135,10 +163,11 @@ pub fn takes_count(operator: Operator, count: usize) -> bool
     ensures { result ≡ spec.takes_count operator count }
 {
     match operator {
-        Operator::Not => count == 1,
+        Operator::Not | Operator::Singleton => count == 1,
         Operator::And | Operator::Or => count >= 1,
+        Operator::Member | Operator::Subset | Operator::Minus => count == 2,
         Operator::Implies | Operator::Xor | Operator::Equal | Operator::Distinct => count >= 2,
+        Operator::Union | Operator::Inter | Operator::Insert => count >= 2,
         Operator::Choice => count == 3,
-        Operator::Member => count == 2,
     }
 }

@@ -2,7 +2,8 @@ use Rattle.std.proofs.Common.{◌≡◌, ◌+◌, ◌<◌, ◌∷◌, [], ◌++�
 use Rattle.sc_sexpr.specs.Shapes.{Listed, shape, shapes_of}
 use Rattle.sc_stack.specs.Names.{sorts_of}
 use Rattle.sc_elab.specs.Growth.{Gives, IsMeant}
-use Rattle.sc_elab.specs.Heads.{operator_of}
+use Rattle.sc_elab.specs.declared.heads.Head.TheVariants as heads
+use Rattle.sc_elab.specs.Heads.{head_of}
 use Rattle.sc_elab.specs.Elab as spec
 use Rattle.sc_elab.proofs.Growing.{gives_on}
 use Rattle.sc_elab.proofs.Shaped.{listed}
@@ -21,12 +22,21 @@ arguments-loop-index-preserved t c =
     subst (λ ms. Elaborates c.args.stack.now whole c.args.bank.now ms after c.term.new.bank) (sym pushed)
     (elaborates_on c.args.stack.now whole c.args.bank.now c.loop-index.made c.index-trees-index.result after c.in-Ok.meant c.loop-index.bank c.term.new.bank goes c.in-Ok.ensures)
 
-pub term-returns-in-Ok-arguments : goal.term-returns-in-Ok-arguments
-term-returns-in-Ok-arguments t c =
+pub term-returns-in-Ok-EmptySet : goal.term-returns-in-Ok-EmptySet
+term-returns-in-Ok-EmptySet t c =
     let known = sorts_of c.args.stack.now in
     let parts = shapes_of (map shape c.in-List.items.trees.items) in
     let is : shape c.args.tree.now ≡ Listed c.in-List.items.line parts = ap shape c.in-List.is ∙ listed c.in-List.items in
-    let head : operator_of c.args.stack.now parts ≡ Ok c.in-Ok.operator = search rules in
-    let applied = subst (λ ms. Gives known IsMeant (spec.apply c.in-Ok.operator ms c.arguments.new.bank) c.arguments.new.bank c.apply.result c.apply.new.bank) c.as_slice-in-Ok-arguments.ensures (c.apply.ensures known) in
+    let head : head_of c.args.stack.now parts ≡ Ok (heads.EmptySet c.in-Ok-EmptySet.sort) = search rules in
+    subst (λ s. Gives known IsMeant (spec.term c.args.stack.now s c.args.bank.now) c.args.bank.now c.empty_set.result c.empty_set.new.bank) (sym is)
+    (subst (λ h. Gives known IsMeant (spec.list_term h (spec.behind_head c.args.stack.now parts) c.args.bank.now) c.args.bank.now c.empty_set.result c.empty_set.new.bank) (sym head) (c.empty_set.ensures known))
+
+pub term-returns-in-Ok : goal.term-returns-in-Ok
+term-returns-in-Ok t c =
+    let known = sorts_of c.args.stack.now in
+    let parts = shapes_of (map shape c.in-List.items.trees.items) in
+    let is : shape c.args.tree.now ≡ Listed c.in-List.items.line parts = ap shape c.in-List.is ∙ listed c.in-List.items in
+    let head : head_of c.args.stack.now parts ≡ Ok (heads.Operator c.in-Ok-Operator.operator) = search rules in
+    let applied = subst (λ ms. Gives known IsMeant (spec.apply c.in-Ok-Operator.operator ms c.arguments.new.bank) c.arguments.new.bank c.apply.result c.apply.new.bank) c.as_slice-in-Ok.ensures (c.apply.ensures known) in
     subst (λ s. Gives known IsMeant (spec.term c.args.stack.now s c.args.bank.now) c.args.bank.now c.apply.result c.apply.new.bank) (sym is)
-    (subst (λ h. Gives known IsMeant (spec.list_term h (spec.behind_head c.args.stack.now parts) c.args.bank.now) c.args.bank.now c.apply.result c.apply.new.bank) (sym head) (gives_on (spec.apply c.in-Ok.operator) c.in-Ok-arguments.ensures applied))
+    (subst (λ h. Gives known IsMeant (spec.list_term h (spec.behind_head c.args.stack.now parts) c.args.bank.now) c.args.bank.now c.apply.result c.apply.new.bank) (sym head) (gives_on (spec.apply c.in-Ok-Operator.operator) c.in-Ok.ensures applied))

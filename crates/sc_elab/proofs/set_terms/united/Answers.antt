@@ -1,0 +1,35 @@
+use Rattle.std.proofs.Common.{◌≡◌, ◌+◌, ◌-◌, ◌<◌, length, subst, rules}
+use Rattle.sc_elab.specs.Builds as spec
+use Rattle.sc_elab.proofs.Loops.{Nests, nests_item, nests_on, nests_stop, nests_all, nests_none}
+use Rattle.sc_terms.specs.Bank.{IsSetOf}
+use Rattle.sc_elab.proofs.Growing.{still_set}
+use Rattle.sc_elab.proofs.set_terms.united.Goals as goal
+
+pub put_union-requires-clause-s : goal.put_union-requires-clause-s
+put_union-requires-clause-s c =
+    let one : c.loop-index.index ≡ (c.loop-index.index - 1) + 1 = search rules in
+    let lt : c.loop-index.index - 1 < length c.args.singles.now = search rules in
+    nests_item IsSetOf still_set spec.union c.args.singles.now c.args.last c.args.bank.now c.loop-index.made (c.loop-index.index - 1) c.loop-index.bank c.loop-index.bank lt (subst (λ i. Nests IsSetOf still_set spec.union c.args.singles.now c.args.last c.args.bank.now c.loop-index.made i c.loop-index.bank) one c.loop-index.invariant)
+
+pub put_union-requires-clause-t : goal.put_union-requires-clause-t
+put_union-requires-clause-t c = c.loop-index.invariant.made_is
+
+pub loop-index-preserved : goal.loop-index-preserved
+loop-index-preserved c =
+    let one : c.loop-index.index ≡ (c.loop-index.index - 1) + 1 = search rules in
+    let lt : c.loop-index.index - 1 < length c.args.singles.now = search rules in
+    nests_on IsSetOf still_set spec.union c.args.singles.now c.args.last c.args.bank.now c.loop-index.made (c.loop-index.index - 1) c.loop-index.bank c.put_union.new.bank lt (subst (λ i. Nests IsSetOf still_set spec.union c.args.singles.now c.args.last c.args.bank.now c.loop-index.made i c.loop-index.bank) one c.loop-index.invariant) c.in-Ok.number c.in-Ok.ensures
+
+pub returns-in-Err : goal.returns-in-Err
+returns-in-Err c =
+    let one : c.loop-index.index ≡ (c.loop-index.index - 1) + 1 = search rules in
+    let lt : c.loop-index.index - 1 < length c.args.singles.now = search rules in
+    nests_stop IsSetOf still_set spec.union c.args.singles.now c.args.last c.args.bank.now c.loop-index.made (c.loop-index.index - 1) c.loop-index.bank c.put_union.new.bank lt (subst (λ i. Nests IsSetOf still_set spec.union c.args.singles.now c.args.last c.args.bank.now c.loop-index.made i c.loop-index.bank) one c.loop-index.invariant) c.in-Err.error c.in-Err.ensures
+
+pub returns : goal.returns
+returns c =
+    let none : c.loop-index.index ≡ 0 = search rules in
+    nests_all IsSetOf still_set spec.union c.args.singles.now c.args.last c.args.bank.now c.loop-index.made c.loop-index.bank (subst (λ i. Nests IsSetOf still_set spec.union c.args.singles.now c.args.last c.args.bank.now c.loop-index.made i c.loop-index.bank) none c.loop-index.invariant)
+
+pub loop-index-init : goal.loop-index-init
+loop-index-init c = nests_none IsSetOf still_set spec.union c.args.singles.now c.args.last c.args.bank.now c.requires.singles c.requires.last
