@@ -1,6 +1,6 @@
 -- The nodes of a stock mean what the bank's nodes mean of which they are made.
-use Rattle.std.proofs.Common.{◌≡◌, ℕ, zero, suc, ◌<◌, Bool, true, false, not, cond, ℤ, pos, ◌+ℤ◌, ◌*ℤ◌, List, [], ◌∷◌, ◌++◌, length, map, Option, Some, refl, sym, ap, ◌∙◌, arith}
-use Rattle.std.specs.Prelude.{int_lt, slice_get}
+use Rattle.std.proofs.Common.{◌≡◌, ℕ, zero, suc, ◌<◌, Bool, true, false, not, cond, ℤ, pos, ◌+ℤ◌, ◌*ℤ◌, List, [], ◌∷◌, length, map, Option, Some, refl, sym, ap, ◌∙◌, arith}
+use Rattle.std.specs.Prelude.{int_lt}
 use Rattle.std.specs.List.{list_any, list_all, AllByRecursion}
 use Rattle.std.specs.Ordering.{is_lt}
 use Rattle.std.proofs.lemmas.Int.{ints}
@@ -24,7 +24,7 @@ use Rattle.sc_flatten.specs.Walk.{form_parts, formula_parts, set_parts, element_
 use Rattle.sc_flatten.specs.Classes.{pairs_of, diff_of_pair}
 use Rattle.sc_flatten.specs.Stock.{Numbering, number_in, placed_term, form_in, formula_in, set_in, element_in, formula_by, set_by, element_by, formulas_by, walked_by, problem_by}
 use Rattle.sc_flatten.specs.Numbered.{IsAmong, TermListed, FormulaListed, SetListed, ElementListed, FormulaListedAt, SetListedAt, ElementListedAt, IsWhole}
-use Rattle.sc_flatten.proofs.Lists.{all_to, all_from, item_map}
+use Rattle.sc_flatten.proofs.Lists.{all_to, all_from, item_map, item_first}
 use Rattle.sc_flatten.proofs.Firsts.{number_there}
 use Rattle.sc_flatten.proofs.Below.{parts_below}
 
@@ -101,15 +101,6 @@ module _ (bank : List Node) (is : IsBank bank) (assertions : List ℕ) (by : Num
     element_agrees (elements.Diff s t) h p = absurd h
 
   -- ---- a node agrees where those with smaller numbers do
-  get_first : (xs ys : List Element) (k : ℕ) (x : Element) → slice_get xs k ≡ Some x → slice_get (xs ++ ys) k ≡ Some x
-  get_first [] ys k x e = absurd cc
-  get_first (y ∷ xs) ys zero x e = e
-  get_first (y ∷ xs) ys (suc k) x e = get_first xs ys k x e
-
-  item_first : (xs ys : List Element) (k : ℕ) (x : Element) → item_at xs k ≡ Some x → item_at (xs ++ ys) k ≡ Some x
-  item_first xs ys zero x e = absurd cc
-  item_first xs ys (suc k) x e = get_first xs ys k x e
-
   module _ (n : ℕ) (agree : (m : ℕ) → m < n → AgreesAt by v w m) where
     parts_agree : AllByRecursion (λ m. m < n) (parts_at (item_at bank n))
     parts_agree = all_from (λ m. m < n) (parts_at (item_at bank n)) (λ p e. (parts_below bank is n p e).1)

@@ -20,3 +20,7 @@ pub mod Agreeing
 pub mod Meanings
 pub mod Sorted
 pub mod Ascending
+pub mod Sortings
+pub mod Pures
+pub mod Differing
+pub mod Unnamed

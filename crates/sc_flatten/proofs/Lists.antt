@@ -176,6 +176,15 @@ module _ {X : Type 0} where
   item_appended xs ys zero z e = absurd cc
   item_appended xs ys (suc n) z e = elim (get_appended xs ys n z e) [ inl h ↦ inl h | inr h ↦ inr (h.0, (suc h.1.0, h.1.1)) ]
 
+  get_first : (xs ys : List X) (n : ℕ) (z : X) → slice_get xs n ≡ Some z → slice_get (xs ++ ys) n ≡ Some z
+  get_first [] ys n z e = absurd cc
+  get_first (x ∷ xs) ys zero z e = e
+  get_first (x ∷ xs) ys (suc n) z e = get_first xs ys n z e
+
+  pub item_first : (xs ys : List X) (n : ℕ) (z : X) → item_at xs n ≡ Some z → item_at (xs ++ ys) n ≡ Some z
+  item_first xs ys zero z e = absurd cc
+  item_first xs ys (suc n) z e = get_first xs ys n z e
+
   get_in : (xs : List X) (n : ℕ) → n < length xs → (x : X) × (slice_get xs n ≡ Some x)
   get_in [] n h = absurd (omega arith)
   get_in (x ∷ xs) zero h = (x, refl)

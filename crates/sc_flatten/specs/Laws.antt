@@ -17,6 +17,8 @@ use Rattle.sc_terms.specs.BankValues.{bank_meaning}
 use Rattle.sc_terms.specs.Conditions.{IsProblem}
 use Rattle.sc_terms.specs.Meaning.{Interpretation, IsInterpretation}
 use Rattle.sc_terms.specs.Values.{meaning}
+use Rattle.sc_sorts.specs.Sorted.{IsWellSorted, IsWellSortedBank}
+use Rattle.sc_sorts.specs.Pure.{IsPureFormula, IsPureElement, IsPureBank, HasDiffs, NamesNoDiff}
 use Rattle.sc_flatten.specs.Classes.{links_of, least_of, homes_of, components_of}
 use Rattle.sc_flatten.specs.Stock.{stock}
 
@@ -58,6 +60,24 @@ abbrev pub SortsStay : Type 0
 SortsStay =
     (known : List Sort) (bank : List Node) (assertions : List ℕ) → IsBank bank → AreFormulasOf bank assertions → HasSorts known bank
     → ProblemHasSorts known (stock bank assertions)
+
+-- The stock of a well-sorted bank is well sorted.
+abbrev pub StocksStaySorted : Type 0
+StocksStaySorted = (bank : List Node) (assertions : List ℕ) → IsBank bank → AreFormulasOf bank assertions → IsWellSortedBank bank → IsWellSorted (stock bank assertions)
+
+-- ---- pure sets
+-- The stock of a bank without inequalities and Int terms has none.
+pub record StocksStayPure : Type 0 where
+  pub formulas : (bank : List Node) (assertions : List ℕ) → IsPureBank bank → AllByRecursion IsPureFormula (stock bank assertions).formulas
+  pub elements : (bank : List Node) (assertions : List ℕ) → IsPureBank bank → AllByRecursion IsPureElement (stock bank assertions).elements
+
+-- The sides of each equation of a stock have their differing element.
+abbrev pub StocksHaveDiffs : Type 0
+StocksHaveDiffs = (bank : List Node) (assertions : List ℕ) → HasDiffs (stock bank assertions)
+
+-- No formula and no set of one of a stock names a differing element.
+abbrev pub StocksNameNoDiffs : Type 0
+StocksNameNoDiffs = (bank : List Node) (assertions : List ℕ) → IsBank bank → AreFormulasOf bank assertions → NamesNoDiff (stock bank assertions)
 
 -- ---- components: the classes of the smallest equivalence in which linked numbers are equal
 pub record AreLeasts (links : List (ℕ × ℕ)) (least : ℕ → ℕ) : Type 0 where

@@ -1,6 +1,6 @@
 //! Laws of the stock.
 
-ghost use Rattle.sc_flatten.specs.Laws.{StocksAreProblems, MeaningsAgree, SortsStay, LeastsAreOfClasses, ComponentsAscend};
+ghost use Rattle.sc_flatten.specs.Laws.{StocksAreProblems, MeaningsAgree, SortsStay, StocksStaySorted, StocksStayPure, StocksHaveDiffs, StocksNameNoDiffs, LeastsAreOfClasses, ComponentsAscend};
 
 use sc_terms::{bank_meanings_fit, meanings_fit};
 
@@ -20,6 +20,26 @@ pub fn meanings_agree()
 /// The constants that the stock names have the sorts that they have in the bank.
 pub fn sorts_stay()
     ensures { SortsStay }
+{}
+
+/// The stock of a well-sorted bank is well sorted.
+pub fn stocks_stay_sorted()
+    ensures { StocksStaySorted }
+{}
+
+/// The stock of a bank without inequalities and Int terms has none.
+pub fn stocks_stay_pure()
+    ensures { StocksStayPure }
+{}
+
+/// The two sides of each equation of sets in a stock, where they differ, have their differing element there.
+pub fn stocks_have_diffs()
+    ensures { StocksHaveDiffs }
+{}
+
+/// No equation, membership or set of one element of a stock names a differing element.
+pub fn stocks_name_no_diffs()
+    ensures { StocksNameNoDiffs }
 {}
 
 /// Two set terms have one component exactly where they are linked, directly or over others, by arguments and equations: the numbers of components' least set terms are the least of the classes of the smallest equivalence that holds the links.

@@ -4,6 +4,7 @@ ghost use Rattle.std.specs.Prelude.{IfOk};
 ghost use Rattle.sc_terms.specs.Bank.{IsFormulaOf};
 
 use super::*;
+use sc_sorts::{may_hold, members_sort, sets_alike};
 use sc_terms::{Bank, BankError, Element, Formula, Problem, SetTerm, Sort};
 use std::process::Abort;
 use std::test::Fail;
@@ -42,6 +43,8 @@ fn check_equation(rt: &impl Abort, problem: &Problem) -> bool {
     assert!(rt; problem.roots() == [1].as_slice());
     assert!(rt; problem.counts().components == 1);
     assert!(rt; problem.diff_of(4, 1) == Some(1));
+    assert!(rt; members_sort(problem, 1) == Some(Sort::Int));
+    assert!(rt; may_hold(problem, 1, 1) && sets_alike(problem, 1, 4));
     matches!(problem.find_set(1), Some(SetTerm::Union(2, 3)))
 }
 
