@@ -6,3 +6,4 @@ pub mod Nested
 pub mod Checked
 pub mod Taking
 pub mod Judged
+pub mod Examples

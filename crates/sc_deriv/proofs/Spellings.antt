@@ -41,6 +41,7 @@ Forest (suc k) ns = (first : List Node) × (rest : List Node) × (ns ≡ first +
 
 counts : (node : Node) → (branch_count node ≡ 0) ⊎ ((branch_count node ≡ 1) ⊎ (branch_count node ≡ 2))
 counts (nodes.Step (Plain (plain.Cut name))) = inr (inr refl)
+counts (nodes.Step (Plain (plain.Differ s t))) = inr (inr refl)
 counts (nodes.Step (Plain _)) = inr (inl refl)
 counts (nodes.Closing closing) = inl refl
 

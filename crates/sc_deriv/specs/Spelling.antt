@@ -18,6 +18,7 @@ use Rattle.sc_deriv.specs.Acceptance.{is_ordered}
 -- how many branches a step has
 abbrev pub plain_count : PlainStep → ℕ
 plain_count (plain.Cut name) = 2
+plain_count (plain.Differ s t) = 2
 plain_count _ = 1
 
 abbrev pub step_count : Step → ℕ

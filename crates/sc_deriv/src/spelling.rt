@@ -74,7 +74,7 @@ fn branch_count(node: &Node) -> usize
     ensures most { result ≤ 2 }
 {
     match node {
-        Node::Step(Step::Plain(PlainStep::Cut(_))) => 2,
+        Node::Step(Step::Plain(PlainStep::Cut(_) | PlainStep::Differ(_, _))) => 2,
         Node::Step(Step::Plain(_)) => 1,
         Node::Closing(_) => 0,
     }

@@ -9,30 +9,22 @@ use Rattle.sc_terms.specs.declared.nodes.Formula.{Formula}
 use Rattle.sc_terms.specs.declared.nodes.Formula.TheVariants as formulas
 use Rattle.sc_terms.specs.Lookup.{formula_at}
 use Rattle.sc_terms.specs.Same.{same_truth}
-use Rattle.sc_terms.specs.Meaning.{Interpretation, Valuation, Fits, truth_of}
+use Rattle.std.specs.Ordering.{int_eq}
+use Rattle.sc_base.specs.Integers.{has_element}
+use Rattle.sc_terms.specs.Meaning.{Interpretation, Valuation, Fits, truth_of, same_elements, cube_members}
+use Rattle.sc_rules.specs.Pairs.{equal_fact, same_set_fact}
 use Rattle.sc_facts.specs.declared.fact.Fact.{Fact}
 use Rattle.sc_facts.specs.declared.fact.Fact.TheVariants as facts
 use Rattle.sc_facts.specs.declared.name.FactName.{FactName}
 use Rattle.sc_facts.specs.declared.name.FactName.TheVariants as names
-use Rattle.sc_facts.specs.Facts.{FactHolds, Hold, OneHolds}
+use Rattle.sc_facts.specs.Facts.{named, is_empty, FactHolds, Hold, OneHolds}
 use Rattle.sc_facts.proofs.Truth.{has_holds}
 use Rattle.sc_rules.specs.declared.step.PlainStep.{PlainStep}
 use Rattle.sc_rules.specs.declared.step.PlainStep.TheVariants as steps
-use Rattle.sc_rules.specs.Boolean.{first_sign, sign, sign_of, all_have, agree, differ, own_sign, part_at, others_have, part_sign, unit_of, parts_sign, all_of, atom_with, atom_of}
-use Rattle.sc_rules.specs.Steps.{one, cut_of, branches, StepsAreSound}
-
-first_sign-is : (plus minus s t : Bool) → (plus ≡ true → t ≡ true) → (minus ≡ true → t ≡ false) → first_sign plus minus ≡ Some s → t ≡ s
-first_sign-is true minus s t p m e = p refl ∙ cc
-first_sign-is false true s t p m e = m refl ∙ cc
-first_sign-is false false s t p m e = absurd cc
-
-not-true : (b : Bool) → not b ≡ true → b ≡ false
-not-true true e = sym e
-not-true false e = refl
-
-not-false : (b : Bool) → not b ≡ false → b ≡ true
-not-false true e = refl
-not-false false e = sym e
+use Rattle.sc_rules.specs.Boolean.{sign, sign_of, all_have, agree, differ, own_sign, part_at, others_have, part_sign, unit_of, parts_sign, all_of, atom_with, atom_of}
+use Rattle.sc_rules.specs.Steps.{one, names_fact, cut_of, branches, StepsAreSound}
+use Rattle.sc_rules.proofs.Signs.{first_sign-is, not-true, not-false, true_or_false}
+use Rattle.sc_rules.proofs.SetSteps.{atom_equal, atom_same_set, op-true, into_single-true, from_single-true, carry-true, apart-true, move-true, set_apart-true, reflexive-true, equal_step-true, set_reflexive-true, set_step-true, differ-true}
 
 same_truth-left : (g k : Bool) → same_truth (same_truth g k) k ≡ g
 same_truth-left true true = refl
@@ -45,10 +37,6 @@ same_truth-right true true = refl
 same_truth-right true false = refl
 same_truth-right false true = refl
 same_truth-right false false = refl
-
-true_or_false : (b : Bool) → (b ≡ true) ⊎ (b ≡ false)
-true_or_false true = inl refl
-true_or_false false = inr refl
 
 module _ (problem : Parts) (i : Interpretation) (v : Valuation) (fits : Fits problem i v) (path : List Fact) (h : Hold problem v path) where
   has_sign : (f : ℕ) (s : Bool) → sign path f s ≡ true → v.truth f ≡ s
@@ -166,6 +154,10 @@ module _ (problem : Parts) (i : Interpretation) (v : Valuation) (fits : Fits pro
   atom_with-true : (node : Formula) (s : Bool) (fact : Fact) → truth_of problem i v node ≡ s → atom_with node s ≡ Some fact → FactHolds problem v fact
   atom_with-true (formulas.Member x set) s fact t e =
       let same : facts.Member x set s ≡ fact = cc in subst (FactHolds problem v) same t
+  atom_with-true (formulas.Eq x y) s fact t e =
+      let same : equal_fact x y s ≡ fact = cc in subst (FactHolds problem v) same (atom_equal problem i v fits path h x y s t)
+  atom_with-true (formulas.EqSet x y) s fact t e =
+      let same : same_set_fact x y s ≡ fact = cc in subst (FactHolds problem v) same (atom_same_set problem i v fits path h x y s t)
   atom_with-true _ s fact t e = absurd cc
 
   atom-true : (n : ℕ) (fact : Fact) → atom_of problem path n ≡ Some fact → FactHolds problem v fact
@@ -180,18 +172,39 @@ module _ (problem : Parts) (i : Interpretation) (v : Valuation) (fits : Fits pro
   one-holds (Some fact) bs each e =
       let same : (fact ∷ []) ∷ [] ≡ bs = cc in subst (OneHolds problem v) same (inl (each fact refl, tt))
 
+  named-holds : (name : FactName) → names_fact problem name ≡ true → FactHolds problem v (named name true) ⊎ FactHolds problem v (named name false)
+  named-holds (names.Sign f) e = true_or_false (v.truth f)
+  named-holds (names.Member x s) e = true_or_false (has_element (v.members s) (v.element x))
+  named-holds (names.Eq x y) e = true_or_false (int_eq (v.element x) (v.element y))
+  named-holds (names.EqSet s t) e = true_or_false (same_elements (v.members s) (v.members t))
+  named-holds (names.Empty cube) e = true_or_false (is_empty (cube_members problem v cube))
+
   cut-holds : (name : FactName) (bs : List (List Fact)) → cut_of problem name ≡ Some bs → OneHolds problem v bs
-  cut-holds (names.Sign f) bs e =
-      let node = bind_some (formula_at problem f) _ bs e in
-      let same : (facts.Sign f true ∷ []) ∷ (facts.Sign f false ∷ []) ∷ [] ≡ bs = cc in
-      subst (OneHolds problem v) same (⊎_elim (λ t. inl (t, tt)) (λ t. inr (inl (t, tt))) (true_or_false (v.truth f)))
-  cut-holds _ bs e = absurd cc
+  cut-holds name bs e =
+      elim (cond_cases (names_fact problem name) _ None (Some bs) e) [
+        | inl a ↦
+            let same : (named name true ∷ []) ∷ (named name false ∷ []) ∷ [] ≡ bs = cc in
+            subst (OneHolds problem v) same (⊎_elim (λ t. inl (t, tt)) (λ t. inr (inl (t, tt))) (named-holds name a.0))
+        | inr b ↦ absurd cc
+      ]
 
   branches-hold : (step : PlainStep) (bs : List (List Fact)) → branches problem path step ≡ Some bs → OneHolds problem v bs
   branches-hold (steps.Atom n) bs e = one-holds _ bs (atom-true n) e
   branches-hold (steps.All n p) bs e = one-holds _ bs (all-true n p) e
   branches-hold (steps.Unit n p) bs e = one-holds _ bs (unit-true n p) e
   branches-hold (steps.Cut name) bs e = cut-holds name bs e
+  branches-hold (steps.Op x s p) bs e = one-holds _ bs (op-true problem i v fits path h x s p) e
+  branches-hold (steps.Single x s) bs e = one-holds _ bs (into_single-true problem i v fits path h x s) e
+  branches-hold (steps.Unsingle x s) bs e = one-holds _ bs (from_single-true problem i v fits path h x s) e
+  branches-hold (steps.Carry x y s) bs e = one-holds _ bs (carry-true problem i v fits path h x y s) e
+  branches-hold (steps.Apart x y s) bs e = one-holds _ bs (apart-true problem i v fits path h x y s) e
+  branches-hold (steps.Move x s t) bs e = one-holds _ bs (move-true problem i v fits path h x s t) e
+  branches-hold (steps.SetApart x s t) bs e = one-holds _ bs (set_apart-true problem i v fits path h x s t) e
+  branches-hold (steps.EqRefl x) bs e = one-holds _ bs (reflexive-true problem i v fits path h x) e
+  branches-hold (steps.EqStep x y z) bs e = one-holds _ bs (equal_step-true problem i v fits path h x y z) e
+  branches-hold (steps.SeqRefl s) bs e = one-holds _ bs (set_reflexive-true problem i v fits path h s) e
+  branches-hold (steps.SeqStep s t u) bs e = one-holds _ bs (set_step-true problem i v fits path h s t u) e
+  branches-hold (steps.Differ s t) bs e = differ-true problem i v fits path h s t bs e
 
 pub steps_sound : StepsAreSound
 steps_sound problem i v fits path step bs e h = branches-hold problem i v fits path h step bs e

@@ -10,10 +10,7 @@ use Rattle.sc_terms.specs.Lookup.{formula_at}
 use Rattle.sc_facts.specs.declared.fact.Fact.{Fact}
 use Rattle.sc_facts.specs.declared.fact.Fact.TheVariants as facts
 use Rattle.sc_facts.specs.Facts.{has}
-
--- a plus where the first holds, else a minus where the second does
-abbrev pub first_sign : Bool → Bool → Option Bool
-first_sign plus minus = if plus then Some true else if minus then Some false else None
+use Rattle.sc_rules.specs.Pairs.{first_sign, equal_fact, same_set_fact}
 
 -- whether the path gives formula f the sign s
 abbrev pub sign : List Fact → ℕ → Bool → Bool
@@ -89,6 +86,8 @@ all_of problem path n p = do
 -- the fact that an atomic formula states
 abbrev pub atom_with : Formula → Bool → Option Fact
 atom_with (formulas.Member e s) b = Some (facts.Member e s b)
+atom_with (formulas.Eq e f) b = Some (equal_fact e f b)
+atom_with (formulas.EqSet s t) b = Some (same_set_fact s t b)
 atom_with _ b = None
 
 -- atom n

@@ -1,3 +1,6 @@
-pub mod Boolean
-pub mod Steps
 pub mod Same
+pub mod Pairs
+pub mod Boolean
+pub mod Members
+pub mod Steps
+pub mod Example

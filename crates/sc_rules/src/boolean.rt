@@ -3,22 +3,10 @@
 ghost use Rattle.std.specs.Prelude.{◌≡◌, ◌≤◌, IsSome, length};
 ghost use Rattle.sc_rules.specs.Boolean as spec;
 
+use crate::pairs::{equal_fact, first_sign, same_set_fact};
 use sc_base::item_at;
 use sc_facts::{Fact, Path};
 use sc_terms::{Formula, Problem};
-
-/// A plus where the first holds, else a minus where the second does.
-pub fn first_sign(plus: bool, minus: bool) -> Option<bool>
-    ensures { result ≡ spec.first_sign plus minus }
-{
-    if plus {
-        Some(true)
-    } else if minus {
-        Some(false)
-    } else {
-        None
-    }
-}
 
 fn has_sign(path: &Path, formula: u32, sign: bool) -> bool
     ensures { result ≡ spec.sign path.now.facts formula sign }
@@ -174,6 +162,8 @@ fn atom_with(node: &Formula, sign: bool) -> Option<Fact>
 {
     match node {
         Formula::Member(element, set) => Some(Fact::Member(*element, *set, sign)),
+        Formula::Eq(e, f) => Some(equal_fact(*e, *f, sign)),
+        Formula::EqSet(s, t) => Some(same_set_fact(*s, *t, sign)),
         _ => None,
     }
 }
