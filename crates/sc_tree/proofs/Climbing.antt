@@ -33,6 +33,15 @@ pub follow_on : (problem : Parts) (path new : PathFacts) (steps : List Taken) (i
 follow_on problem path new steps i t whole front e some f =
     followed problem path new (drop (i + 1) steps) whole (concluded problem path.facts t) (ap (path_from problem path.facts) (sym front) ∙ e) some f
 
+binds : (o : Option (List Fact)) (g : List Fact → Option (List Fact)) → is_some (o >>= g) ≡ true → is_some o ≡ true
+binds None g e = absurd (false≢true e)
+binds (Some x) g e = refl
+
+-- where steps lead on, the first of them applies
+pub applies_next : (problem : Parts) (path : PathFacts) (steps : List Taken) (i : ℕ) (t : Taken) (whole : Option (List Fact)) → drop i steps ≡ t ∷ drop (i + 1) steps → path_from problem path.facts (drop i steps) ≡ whole → is_some whole ≡ true → is_some (concluded problem path.facts t) ≡ true
+applies_next problem path steps i t whole front e some =
+    binds (concluded problem path.facts t) (λ b. path_from problem (path.facts ++ b) (drop (i + 1) steps)) (ap is_some (sym (ap (path_from problem path.facts) front) ∙ e) ∙ some)
+
 none-at : {X : Type 0} (o : Option X) → o ≡ None → is_some o ≡ true → ⊥
 none-at o e some = false≢true (sym (ap is_some e) ∙ some)
 

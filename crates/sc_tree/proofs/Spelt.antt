@@ -1,6 +1,6 @@
 -- A closed tree on the root path can be written down.
 use Rattle.std.proofs.Common.{◌≡◌, ℕ, Bool, true, false, ◌&&◌, ◌||◌, List, [], ◌∷◌, ◌++◌, Option, Some, None, refl, sym, ap, ◌∙◌, subst}
-use Rattle.std.specs.Prelude.{if◌then◌else◌}
+use Rattle.std.specs.Prelude.{nat_le, if◌then◌else◌}
 use Rattle.std.specs.List.{list_all}
 use Rattle.std.proofs.lemmas.Bool.{false≢true}
 use Rattle.sc_base.specs.Options.{◌>>=◌}
@@ -8,7 +8,7 @@ use Rattle.sc_base.proofs.Bools.{and_true}
 use Rattle.sc_terms.specs.declared.problem.Parts.{Parts}
 use Rattle.sc_terms.specs.declared.nodes.Formula.{Formula}
 use Rattle.sc_terms.specs.declared.nodes.Formula.TheVariants as formulas
-use Rattle.sc_terms.specs.Lookup.{formula_at}
+use Rattle.sc_terms.specs.Lookup.{formula_at, set_at, element_at}
 use Rattle.sc_facts.specs.declared.fact.Fact.{Fact}
 use Rattle.sc_facts.specs.declared.fact.Fact.TheVariants as facts
 use Rattle.sc_facts.specs.declared.name.FactName.{FactName}
@@ -18,6 +18,8 @@ use Rattle.sc_facts.specs.Facts.{has, named, root_facts}
 use Rattle.sc_rules.specs.declared.step.PlainStep.TheVariants as plain
 use Rattle.sc_rules.specs.Steps as rules
 use Rattle.sc_rules.specs.Boolean.{own_sign, part_at, part_sign, unit_of, parts_sign, all_of, sign_of, atom_with, atom_of}
+use Rattle.sc_rules.specs.Pairs.{ordered, equal_fact, equal, equal_of, same_set_fact, same_set}
+use Rattle.sc_rules.specs.Members.{within_of, op_sign, argument, op_of, single_of, into_single, from_single, carry_of, apart_of, move_of, set_apart_of, reflexive_of, set_reflexive_of, chained, equal_step_of, set_step_of, tells_apart, differing}
 use Rattle.sc_deriv.specs.declared.derivation.Step.{Step}
 use Rattle.sc_deriv.specs.declared.derivation.Step.TheVariants.{Plain}
 use Rattle.sc_deriv.specs.declared.derivation.Closing.{Closing}
@@ -65,12 +67,20 @@ bind-proper : {A : Type 0} (o : Option A) (g : A → Option Fact) → ((x : A) �
 bind-proper None g h f e = absurd cc
 bind-proper (Some x) g h f e = h x f e
 
+no-proper : OneProper None
+no-proper f e = absurd cc
+
+some-proper : (g : Fact) → is_proper g ≡ true → OneProper (Some g)
+some-proper g p f e = let same : g ≡ f = cc in sym (ap is_proper same) ∙ p
+
 sign-proper : (n : ℕ) (s : Bool) → OneProper (Some (facts.Sign n s))
 sign-proper n s f e = let same : facts.Sign n s ≡ f = cc in ap is_proper (sym same)
 
 atom-proper : (node : Formula) (b : Bool) → OneProper (atom_with node b)
-atom-proper (formulas.Member e s) b f h = let same : facts.Member e s b ≡ f = cc in ap is_proper (sym same)
-atom-proper _ b f h = absurd cc
+atom-proper (formulas.Member e s) b = some-proper (facts.Member e s b) refl
+atom-proper (formulas.Eq e f) b = some-proper (equal_fact e f b) refl
+atom-proper (formulas.EqSet s t) b = some-proper (same_set_fact s t b) refl
+atom-proper _ b = no-proper
 
 cond-proper : (b : Bool) (x y : Option Fact) → OneProper x → OneProper y → OneProper (if b then x else y)
 cond-proper true x y p q = p
@@ -82,10 +92,25 @@ one-proper (Some f) bs h e =
     let same : (f ∷ []) ∷ [] ≡ bs = cc in
     subst (λ l. list_all (λ b. list_all is_proper b) l ≡ true) same (ap (λ t. (t && true) && true) (h f refl))
 
-cut-proper : (f : ℕ) (o : Option Formula) (bs : List (List Fact)) → (o >>= λ node. Some ((facts.Sign f true ∷ []) ∷ (facts.Sign f false ∷ []) ∷ [])) ≡ Some bs → list_all (λ b. list_all is_proper b) bs ≡ true
-cut-proper f None bs e = absurd cc
-cut-proper f (Some node) bs e =
-    let same : (facts.Sign f true ∷ []) ∷ (facts.Sign f false ∷ []) ∷ [] ≡ bs = cc in
+cut-proper : (problem : Parts) (name : FactName) (bs : List (List Fact)) → rules.cut_of problem name ≡ Some bs → list_all (λ b. list_all is_proper b) bs ≡ true
+cut-proper problem name bs e = by_name problem name bs (rules.names_fact problem name) refl e where
+  fork : (plus minus : Fact) (bs : List (List Fact)) → is_proper plus ≡ true → is_proper minus ≡ true → ◌≡◌ {A = Option (List (List Fact))} (Some ((plus ∷ []) ∷ (minus ∷ []) ∷ [])) (Some bs) → list_all (λ b. list_all is_proper b) bs ≡ true
+  fork plus minus bs p q e =
+      let same : (plus ∷ []) ∷ (minus ∷ []) ∷ [] ≡ bs = cc in
+      subst (λ l. list_all (λ b. list_all is_proper b) l ≡ true) same (ap (λ t. (t && true) && ((is_proper minus && true) && true)) p ∙ ap (λ t. (t && true) && true) q)
+
+  by_name : (problem : Parts) (name : FactName) (bs : List (List Fact)) (b : Bool) → rules.names_fact problem name ≡ b → (if b then Some ((named name true ∷ []) ∷ (named name false ∷ []) ∷ []) else None) ≡ Some bs → list_all (λ b. list_all is_proper b) bs ≡ true
+  by_name problem name bs false t e = absurd cc
+  by_name problem (names.Sign f) bs true t e = fork (facts.Sign f true) (facts.Sign f false) bs refl refl e
+  by_name problem (names.Member m s) bs true t e = fork (facts.Member m s true) (facts.Member m s false) bs refl refl e
+  by_name problem (names.Eq m s) bs true t e = fork (facts.Eq m s true) (facts.Eq m s false) bs refl refl e
+  by_name problem (names.EqSet m s) bs true t e = fork (facts.EqSet m s true) (facts.EqSet m s false) bs refl refl e
+  by_name problem (names.Empty cube) bs true t e = absurd (false≢true t)
+
+differ-proper : (o : Option ℕ) (pair : ℕ × ℕ) (bs : List (List Fact)) → (o >>= λ d. Some (tells_apart d pair true ∷ tells_apart d pair false ∷ [])) ≡ Some bs → list_all (λ b. list_all is_proper b) bs ≡ true
+differ-proper None pair bs e = absurd cc
+differ-proper (Some d) pair bs e =
+    let same : tells_apart d pair true ∷ tells_apart d pair false ∷ [] ≡ bs = cc in
     subst (λ l. list_all (λ b. list_all is_proper b) l ≡ true) same refl
 
 step-proper : (problem : Parts) (path : List Fact) (step : Step) (bs : List (List Fact)) → step_branches problem path step ≡ Some bs → list_all (λ b. list_all is_proper b) bs ≡ true
@@ -95,16 +120,43 @@ step-proper problem path (Plain (plain.All n p)) bs e =
     one-proper (all_of problem path n p) bs (bind-proper (formula_at problem n) _ (λ node. bind-proper (parts_sign path n node) _ (λ s. bind-proper (part_at node p) _ (λ f. sign-proper f s)))) e
 step-proper problem path (Plain (plain.Unit n p)) bs e =
     one-proper (unit_of problem path n p) bs (bind-proper (formula_at problem n) _ (λ node. cond-proper _ _ _ (bind-proper (own_sign path node) _ (λ s. sign-proper n s)) (bind-proper (part_at node p) _ (λ f. bind-proper (part_sign path n node p) _ (λ s. sign-proper f s))))) e
-step-proper problem path (Plain (plain.Cut (names.Sign f))) bs e = cut-proper f (formula_at problem f) bs e
-step-proper problem path (Plain (plain.Cut _)) bs e = absurd cc
+step-proper problem path (Plain (plain.Cut name)) bs e = cut-proper problem name bs e
+step-proper problem path (Plain (plain.Op x n p)) bs e =
+    one-proper (op_of problem path x n p) bs (bind-proper (set_at problem n) _ (λ node. bind-proper (argument n node p) _ (λ s. bind-proper (op_sign problem path x n node p) _ (λ b. some-proper (facts.Member x s b) refl)))) e
+step-proper problem path (Plain (plain.Single x s)) bs e =
+    one-proper (into_single problem path x s) bs (bind-proper (single_of (set_at problem s)) _ (λ f. bind-proper (equal_of path x f) _ (λ b. some-proper (facts.Member x s b) refl))) e
+step-proper problem path (Plain (plain.Unsingle x s)) bs e =
+    one-proper (from_single problem path x s) bs (bind-proper (single_of (set_at problem s)) _ (λ f. bind-proper (within_of path x s) _ (λ b. some-proper (equal_fact x f b) refl))) e
+step-proper problem path (Plain (plain.Carry x y s)) bs e =
+    one-proper (carry_of path x y s) bs (cond-proper _ _ _ (bind-proper (within_of path x s) _ (λ b. some-proper (facts.Member y s b) refl)) no-proper) e
+step-proper problem path (Plain (plain.Apart x y s)) bs e =
+    one-proper (apart_of path x y s) bs (cond-proper _ _ _ (some-proper (equal_fact x y false) refl) no-proper) e
+step-proper problem path (Plain (plain.Move x s t)) bs e =
+    one-proper (move_of path x s t) bs (cond-proper _ _ _ (bind-proper (within_of path x s) _ (λ b. some-proper (facts.Member x t b) refl)) no-proper) e
+step-proper problem path (Plain (plain.SetApart x s t)) bs e =
+    one-proper (set_apart_of path x s t) bs (cond-proper _ _ _ (some-proper (same_set_fact s t false) refl) no-proper) e
+step-proper problem path (Plain (plain.EqRefl x)) bs e =
+    one-proper (reflexive_of problem x) bs (bind-proper (element_at problem x) _ (λ node. some-proper (facts.Eq x x true) refl)) e
+step-proper problem path (Plain (plain.EqStep x y z)) bs e =
+    one-proper (equal_step_of path x y z) bs (bind-proper (chained (equal path x y) (equal path y z)) _ (λ b. some-proper (equal_fact x z b) refl)) e
+step-proper problem path (Plain (plain.SeqRefl s)) bs e =
+    one-proper (set_reflexive_of problem s) bs (bind-proper (set_at problem s) _ (λ node. some-proper (facts.EqSet s s true) refl)) e
+step-proper problem path (Plain (plain.SeqStep s t u)) bs e =
+    one-proper (set_step_of path s t u) bs (bind-proper (chained (same_set path s t) (same_set path t u)) _ (λ b. some-proper (same_set_fact s u b) refl)) e
+step-proper problem path (Plain (plain.Differ s t)) bs e = differ-proper (differing problem path s t) (ordered s t) bs e
 
 -- the name of a cut that applies is a fact's
+cut-named : (problem : Parts) (name : FactName) (b : Bool) (bs : List (List Fact)) → rules.names_fact problem name ≡ b → (if b then Some ((named name true ∷ []) ∷ (named name false ∷ []) ∷ []) else None) ≡ Some bs → is_name name ≡ true
+cut-named problem name false bs t e = absurd cc
+cut-named problem (names.Sign f) true bs t e = refl
+cut-named problem (names.Member m s) true bs t e = refl
+cut-named problem (names.Eq m s) true bs t e = ap (λ c. c && true) (and_true (nat_le m s) _ t).0
+cut-named problem (names.EqSet m s) true bs t e = ap (λ c. c && true) (and_true (nat_le m s) _ t).0
+cut-named problem (names.Empty cube) true bs t e = absurd (false≢true t)
+
 step-named : (problem : Parts) (path : List Fact) (step : Step) (bs : List (List Fact)) → step_branches problem path step ≡ Some bs → is_node (nodes.Step step) ≡ true
-step-named problem path (Plain (plain.Atom n)) bs e = refl
-step-named problem path (Plain (plain.All n p)) bs e = refl
-step-named problem path (Plain (plain.Unit n p)) bs e = refl
-step-named problem path (Plain (plain.Cut (names.Sign f))) bs e = refl
-step-named problem path (Plain (plain.Cut _)) bs e = absurd cc
+step-named problem path (Plain (plain.Cut name)) bs e = cut-named problem name (rules.names_fact problem name) bs refl e
+step-named problem path (Plain _) bs e = refl
 
 -- and so is the name of a clash that holds on a proper path
 name-proper : (name : FactName) → is_proper (named name true) ≡ true → name_has_plus name ≡ true

@@ -5,24 +5,32 @@ use Rattle.sc_terms.specs.declared.problem.Parts.{Parts}
 use Rattle.sc_facts.specs.declared.fact.Fact.{Fact}
 use Rattle.sc_facts.specs.declared.fact.Fact.TheVariants as facts
 use Rattle.sc_facts.specs.Facts.{has, root_facts}
+use Rattle.sc_rules.specs.declared.step.PlainStep.TheVariants as plain
+use Rattle.sc_rules.specs.Pairs.{ordered}
 use Rattle.sc_deriv.specs.declared.derivation.Step.{Step}
+use Rattle.sc_deriv.specs.declared.derivation.Step.TheVariants as steps
 use Rattle.sc_deriv.specs.declared.derivation.Taken.{Taken}
 use Rattle.sc_deriv.specs.Taking.{concluded}
 
--- What tells a step of a path from the others: the fact that it brings, or the step itself.
+-- What tells a step of a path from the others: the fact that it brings, or the step itself, with its pair in order.
 pub data Key : Type 0 where
   Brings : Fact → Key
   Says : Step → Key
 
+-- the step with its pair in order, where what it says does not depend on the pair's order
+abbrev pub with_ordered_pair : Step → Step
+with_ordered_pair (steps.Plain (plain.Differ s t)) = steps.Plain (plain.Differ (ordered s t).0 (ordered s t).1)
+with_ordered_pair step = step
+
 -- a row is told by its step
 abbrev pub fact_key : Step → Fact → Key
-fact_key step (facts.Row row) = Says step
+fact_key step (facts.Row row) = Says (with_ordered_pair step)
 fact_key step fact = Brings fact
 
 -- the key of a step that brings these facts: where it brings one fact, which is no row, that fact
 abbrev pub key : Step → List Fact → Key
 key step (fact ∷ []) = fact_key step fact
-key step _ = Says step
+key step _ = Says (with_ordered_pair step)
 
 -- some fact is not on the path
 abbrev pub brings_more : List Fact → List Fact → Bool

@@ -1,4 +1,3 @@
-pub mod Boolean
 pub mod Budgets
 pub mod Verdicts
 pub mod Chains

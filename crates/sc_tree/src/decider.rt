@@ -1,7 +1,7 @@
 //! What decides problems.
 
 ghost use Rattle.std.specs.Prelude.{◌≤◌, ◌^◌, IfOk};
-ghost use Rattle.sc_tree.specs.Boolean.{IsBoolean};
+ghost use Rattle.sc_sorts.specs.Pure.{IsPure, IsOfBank};
 ghost use Rattle.sc_tree.specs.Verdicts.{IsJust};
 
 use crate::verdict::Verdict;
@@ -11,9 +11,10 @@ use std::alloc::Global;
 /// What decides problems.
 pub trait Decider {
     /// A just verdict on the problem, with at most `budget` steps on each branch, 1 to 2^40. The
-    /// problem's formulas are truth values, their combinations and memberships of constants in
-    /// constant sets. The bank is the one whose formulas the problem's assertions are. The only
-    /// error is want of memory.
+    /// problem is well sorted and has no inequality and no Int term, sets that it says to be equal
+    /// have their differing element, and each constant has one node. The bank is the one whose
+    /// formulas the problem's assertions are, and each root is true exactly where its assertion
+    /// is. The only error is want of memory.
     fn decide(
         &mut self,
         alloc: Global,
@@ -21,7 +22,8 @@ pub trait Decider {
         bank: &Bank,
         budget: u64,
     ) -> Result<Verdict, Memory>
-        requires boolean { IsBoolean problem.now }
+        requires pure { IsPure problem.now }
+        requires of_bank { IsOfBank problem.now bank.now }
         requires limit { (1 ≤ budget) × (budget ≤ 2 ^ 40) }
         ensures { IfOk result (IsJust problem.now budget) };
 }

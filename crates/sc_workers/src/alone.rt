@@ -1,9 +1,9 @@
 //! Deciding with one worker.
 
 ghost use Rattle.std.specs.Prelude.{◌≡◌, ◌≤◌, ◌^◌, ◌&&◌, true, IfOk, OnOk};
+ghost use Rattle.sc_sorts.specs.Pure.{IsPure, IsOfBank};
 ghost use Rattle.sc_tree.specs.Machine.{state, has_answer};
 ghost use Rattle.sc_tree.specs.Verdicts.{IsJust};
-ghost use Rattle.sc_tree.specs.Boolean.{IsBoolean};
 ghost use Rattle.sc_workers.specs.Seats as spec;
 ghost use Rattle.sc_workers.specs.Seats.{IsOf, IsIdle, IsBusy, IsAsked};
 
@@ -38,7 +38,8 @@ fn ask(
     tree: &mut Tree,
     branch: &mut Branch,
 ) -> Result<bool, Memory>
-    requires boolean { IsBoolean problem.now }
+    requires pure { IsPure problem.now }
+    requires of_bank { IsOfBank problem.now bank.now }
     requires about { IsOf problem.now budget tree.old }
     requires busy { IsBusy tree.old branch.old }
     ensures about { OnOk result (IsOf problem.now budget tree.new) }
@@ -61,7 +62,8 @@ fn work(
     tree: &mut Tree,
     branch: Branch,
 ) -> Result<(), Memory>
-    requires boolean { IsBoolean problem.now }
+    requires pure { IsPure problem.now }
+    requires of_bank { IsOfBank problem.now bank.now }
     requires limit { budget ≤ 2 ^ 40 }
     requires about { IsOf problem.now budget tree.old }
     requires busy { IsBusy tree.old branch }
@@ -85,7 +87,8 @@ fn search(
     budget: u64,
     tree: &mut Tree,
 ) -> Result<(), Memory>
-    requires boolean { IsBoolean problem.now }
+    requires pure { IsPure problem.now }
+    requires of_bank { IsOfBank problem.now bank.now }
     requires limit { budget ≤ 2 ^ 40 }
     requires about { IsOf problem.now budget tree.old }
     requires idle { IsIdle tree.old }
@@ -107,7 +110,7 @@ fn search(
     Err(Memory)
 }
 
-/// A just verdict on a problem of the Boolean part, with at most `budget` steps on each branch, 1 to 2^40: values that make the problem true, a derivation that refutes it, or the tree of which some branch has spent its budget on different steps. The only error is want of memory.
+/// A just verdict on a well-sorted problem of sets without inequalities and Int terms, whose assertions are the bank's, with at most `budget` steps on each branch, 1 to 2^40: values that make the problem true, a derivation that refutes it, or the tree of which some branch has spent its budget on different steps. The only error is want of memory.
 ///
 /// The search is that of Davis, Logemann and Loveland, "A Machine Program for Theorem-Proving" (1962), on formulas rather than clauses: signs spread to parts and from parts to formulas, and cuts on a formula's sign where they spread no further.
 pub fn decide_alone(
@@ -116,7 +119,8 @@ pub fn decide_alone(
     bank: &Bank,
     budget: u64,
 ) -> Result<Verdict, Memory>
-    requires boolean { IsBoolean problem.now }
+    requires pure { IsPure problem.now }
+    requires of_bank { IsOfBank problem.now bank.now }
     requires limit { budget ≤ 2 ^ 40 }
     ensures { IfOk result (IsJust problem.now budget) }
 {
