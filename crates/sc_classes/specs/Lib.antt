@@ -1,0 +1,4 @@
+pub mod Classes
+pub mod Forests
+pub mod Searches
+pub mod Explanations
