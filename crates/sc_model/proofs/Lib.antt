@@ -1,0 +1,10 @@
+mod Paths
+mod Held
+mod Signed
+mod Shown
+mod Gathering
+mod Reading
+mod Forcing
+mod Following
+mod Telling
+mod Settling

@@ -1,0 +1,9 @@
+use Rattle.std.proofs.Common.{◌≡◌, true, sym, ◌∙◌}
+use Rattle.sc_sorts.specs.Sorts.{may_hold}
+use Rattle.sc_model.specs.Modelling.{label_in}
+use Rattle.sc_model.specs.Deciding.{IsDue, FollowsAt}
+use Rattle.sc_model.proofs.Following.{all_next, kept_none}
+use Rattle.sc_model.proofs.members.due_in_set.Goals as goal
+
+pub loop-place-preserved : goal.loop-place-preserved
+loop-place-preserved c = all_next (λ n. may_hold c.args.problem.now c.args.set n ≡ true → FollowsAt c.args.problem.now c.args.path.now.facts (label_in c.args.labels.now) n c.args.set) c.loop-place.place c.loop-place.invariant (kept_none (IsDue c.args.problem.now c.args.path.now.facts) c.in_ok-due.due (sym c.is_some.ensures ∙ c.if-is_some.false) c.in_ok-due.ensures)
