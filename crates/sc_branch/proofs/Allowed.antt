@@ -18,7 +18,7 @@ use Rattle.sc_facts.specs.Same.{same_fact, same_fact-Decides}
 use Rattle.sc_facts.specs.Facts.{has, root_facts}
 use Rattle.sc_facts.specs.Paths.{with_facts}
 use Rattle.sc_rules.specs.declared.step.PlainStep.TheVariants.{Cut}
-use Rattle.sc_rules.specs.Boolean.{first_sign, sign, sign_of}
+use Rattle.sc_rules.specs.Boolean.{sign}
 use Rattle.sc_rules.specs.Steps.{branches}
 use Rattle.sc_deriv.specs.declared.derivation.Closing.TheVariants.{Clash}
 use Rattle.sc_deriv.specs.declared.derivation.Step.{Step}
@@ -31,11 +31,8 @@ use Rattle.sc_tree.specs.declared.machine.Event.TheVariants as events
 use Rattle.sc_tree.specs.Chains.{taken, grow, firsts}
 use Rattle.sc_tree.specs.Lean.{IsWithin}
 use Rattle.sc_tree.specs.Events.{HasNoClash, Closes, AllowsOn}
-use Rattle.sc_branch.specs.Settled.{IsSettled}
-use Rattle.sc_branch.specs.Deciding.{IsBorneOut}
 use Rattle.sc_branch.specs.Growing.{Held, IsOn, IsHeldAfter, Growth, IsGrown, GoesOn}
-use Rattle.sc_branch.proofs.Reading.{item_low}
-use Rattle.sc_branch.proofs.Steps.{path_keeps, lean_on}
+use Rattle.sc_branch.proofs.Steps.{path_keeps}
 
 -- ---- growing
 abbrev pub held : Growth → Held
@@ -76,39 +73,11 @@ pub no_items : {X : Type 0} (xs : List X) (b : Bool) → (IsTrue b → length xs
 no_items [] b h e = refl
 no_items (x ∷ xs) b h e = absurd (omega (arith, h (subst IsTrue (sym e) refl)))
 
--- ---- splitting
-unsigned : (path : List Fact) (f : ℕ) → sign_of path f ≡ None → (sign path f true ≡ false) × (sign path f false ≡ false)
-unsigned path f e = by (sign path f true) (sign path f false) e
-  where
-    by : (a b : Bool) → first_sign a b ≡ None → (a ≡ false) × (b ≡ false)
-    by true b h = absurd cc
-    by false true h = absurd cc
-    by false false h = (refl, refl)
-
-pub split_allowed : (problem : Parts) (budget : ℕ) (path : List Fact) (steps : List Taken) (f : ℕ) → IsOn problem budget path steps → sign_of path f ≡ None → is_some (formula_at problem f) ≡ true → length steps < budget → AllowsOn problem budget path steps (events.Split (Plain (Cut (names.Sign f))))
-split_allowed problem budget path steps f on none there room =
-    let apart = unsigned path f none in
-    let is : branches problem path (Cut (names.Sign f)) ≡ Some ((facts.Sign f true ∷ []) ∷ (facts.Sign f false ∷ []) ∷ []) = gives (formula_at problem f) there in (
-      (((facts.Sign f true ∷ []), (facts.Sign f false ∷ [])), is),
-      record { lean = lean_on problem steps path (taken step 1) (facts.Sign f true) on.within.lean on.leads (ap (λ o. o >>= (λ bs. item_at bs 1)) is) refl apart.0; few = more 1 },
-      record { lean = lean_on problem steps path (taken step 2) (facts.Sign f false) on.within.lean on.leads (ap (λ o. o >>= (λ bs. item_at bs 2)) is) refl apart.1; few = more 2 },
-    )
-  where
-    step : Step
-    step = Plain (Cut (names.Sign f))
-
-    gives : (o : Option Formula) → is_some o ≡ true → (o >>= λ node. Some ((facts.Sign f true ∷ []) ∷ (facts.Sign f false ∷ []) ∷ [])) ≡ Some ((facts.Sign f true ∷ []) ∷ (facts.Sign f false ∷ []) ∷ [])
-    gives None h = absurd (false≢true h)
-    gives (Some node) h = refl
-
-    more : (branch : ℕ) → length (steps ++ taken (Plain (Cut (names.Sign f))) branch ∷ []) ≤ budget
-    more branch = rw (length-append steps (taken (Plain (Cut (names.Sign f))) branch ∷ [])) (omega (arith, room))
-
 -- ---- closing
 pub close_allowed : (path : List Fact) (name : FactName) → clashes path name ≡ true → Closes path (Clash name)
 close_allowed path name e = ap (λ b. cond b None (Some Q2)) e
 
--- ---- a model
+-- ---- the roots
 root_there : (rs : List ℕ) (r : ℕ) → has (root_facts (r ∷ rs)) (facts.Sign r true) ≡ true
 root_there rs r = rw ((same_fact-Decides (facts.Sign r true) (facts.Sign r true)).1 refl) refl
 
@@ -118,14 +87,3 @@ roots_there problem path steps leads = all problem.roots (λ x h. path_keeps pro
     all : (rs : List ℕ) → ((x : Fact) → has (root_facts rs) x ≡ true → has path x ≡ true) → AllByRecursion (λ r. sign path r true ≡ true) rs
     all [] keeps = tt
     all (r ∷ rs) keeps = (keeps (facts.Sign r true) (root_there rs r), all rs (λ x h. keeps x (or_right (same_fact x (facts.Sign r true)) (has (root_facts rs) x) h)))
-
-pub settled : (problem : Parts) (budget : ℕ) (path : List Fact) (steps : List Taken) → IsOn problem budget path steps → HasNoClash path → ((n : ℕ) → IsIn (length problem.formulas) n → IsBorneOut problem path n) → IsSettled problem path
-settled problem budget path steps on apart borne = record {
-  roots = roots_there problem path steps on.leads;
-  apart = apart;
-  borne_out = λ n node s at e. borne n (first n node at, item_low problem.formulas n node at) node s at e;
-}
-  where
-    first : (n : ℕ) (node : Formula) → formula_at problem n ≡ Some node → 0 < n
-    first zero node at = absurd cc
-    first (suc n) node at = omega arith

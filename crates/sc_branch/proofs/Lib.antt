@@ -1,9 +1,6 @@
-mod Signed
-mod Shown
-mod Gathering
-mod Reading
 mod Clashing
 mod Steps
-mod Due
+mod Splitting
+mod Trying
+mod Labelling
 mod Allowed
-mod Full

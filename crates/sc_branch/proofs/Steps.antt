@@ -19,7 +19,8 @@ use Rattle.sc_deriv.specs.Acceptance.{step_branches}
 use Rattle.sc_deriv.specs.Taking.{concluded, path_from, path_after}
 use Rattle.sc_tree.specs.Chains.{taken, only, grow, firsts}
 use Rattle.sc_tree.specs.Lean.{Key, Brings, fact_key, key, IsLeanOn, LeanFrom, Lean, IsWithin}
-use Rattle.sc_branch.specs.Growing.{Growth, GoesOn, no_row, sole, Adds}
+use Rattle.sc_model.specs.Deciding.{no_row, sole}
+use Rattle.sc_branch.specs.Growing.{Growth, GoesOn, Adds}
 use Rattle.sc_branch.proofs.Clashing.{has_still}
 
 -- ---- where steps lead

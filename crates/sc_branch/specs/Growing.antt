@@ -48,20 +48,6 @@ pub record IsGrown (problem : Parts) (budget : ℕ) (start : Held) (now : Growth
 abbrev pub GoesOn : Parts → ℕ → Growth → Growth → Type 0
 GoesOn problem budget old new = (start : Held) → IsGrown problem budget start old → IsGrown problem budget start new
 
--- the fact, where it is no row
-abbrev pub no_row : Fact → Option Fact
-no_row (facts.Row row) = None
-no_row fact = Some fact
-
--- the one fact of the one branch, where it is no row
-abbrev pub sole : Option (List (List Fact)) → Option Fact
-sole (Some ((fact ∷ []) ∷ [])) = no_row fact
-sole _ = None
-
--- the step concludes one fact, which is no row and not on the path
-abbrev pub Concludes : Parts → List Fact → PlainStep → Type 0
-Concludes problem path step = (fact : Fact) × (sole (branches problem path step) ≡ Some fact) × (has path fact ≡ false)
-
 -- one step was added, which brings this fact
 pub record Adds (step : PlainStep) (fact : Fact) (old new : Growth) : Type 0 where
   pub path : new.path ≡ with_facts old.path (old.path.facts ++ fact ∷ [])

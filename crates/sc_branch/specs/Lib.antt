@@ -1,5 +1,3 @@
-pub mod Settled
-pub mod Modelling
 pub mod Clashes
 pub mod Growing
-pub mod Deciding
+pub mod Labels

@@ -11,6 +11,34 @@ pub(crate) struct Signed {
     pub sign: bool,
 }
 
+/// What a fact says that is followed up.
+#[derive(Clone, Copy)]
+pub(crate) enum News {
+    Sign(Signed),
+    /// Whether an element is in a set.
+    Member(u32, u32),
+    /// Two elements are equal, or differ.
+    Equal(u32, u32, bool),
+    /// Two sets are equal, or differ.
+    EqualSets(u32, u32, bool),
+    /// Nothing, or what stands earlier on the path too.
+    Nothing,
+}
+
+/// What a fact says that is followed up.
+fn news_of(fact: &Fact) -> News {
+    match fact {
+        Fact::Sign(formula, sign) => News::Sign(Signed {
+            formula: *formula,
+            sign: *sign,
+        }),
+        Fact::Member(element, set, _) => News::Member(*element, *set),
+        Fact::Eq(e, f, sign) => News::Equal(*e, *f, *sign),
+        Fact::EqSet(s, t, sign) => News::EqualSets(*s, *t, *sign),
+        Fact::Row(_) | Fact::Empty(_, _) => News::Nothing,
+    }
+}
+
 /// What of a path was followed up, and what is needed to follow up the rest.
 #[derive(Drop)]
 pub(crate) struct Agenda {
@@ -86,21 +114,15 @@ impl Agenda {
         self.done == 0
     }
 
-    /// The next fact that is to be followed up, or nothing where all were. A fact that says nothing of a formula, or stood earlier on the path, gives formula 0.
-    pub(crate) fn next(&mut self, path: &Path) -> Option<Signed> {
+    /// What the next fact says that is to be followed up, or nothing where all facts were.
+    pub(crate) fn next(&mut self, path: &Path) -> Option<News> {
         let place = self.done;
         let fact = path.facts().get(place)?;
         self.done = place + 1;
-        match fact {
-            Fact::Sign(formula, sign) if path.first_place(fact) == Some(place) => Some(Signed {
-                formula: *formula,
-                sign: *sign,
-            }),
-            _ => Some(Signed {
-                formula: 0,
-                sign: true,
-            }),
+        if path.first_place(fact) == Some(place) {
+            return Some(news_of(fact));
         }
+        Some(News::Nothing)
     }
 
     /// How often a formula stands as a part of another.

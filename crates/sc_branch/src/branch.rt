@@ -1,17 +1,19 @@
 //! A branch of the search.
 
-ghost use Rattle.std.specs.Prelude.{◌≡◌, ◌<◌, length, IfOk};
+ghost use Rattle.std.specs.Prelude.{◌≡◌, ◌<◌, length, IfOk, IfSome};
+ghost use Rattle.sc_sorts.specs.Pure.{IsPure, IsOfBank};
+ghost use Rattle.sc_model.specs.Deciding.{Concludes, Divides};
 ghost use Rattle.sc_tree.specs.Events.{AllowsOn, HasNoClash};
-ghost use Rattle.sc_tree.specs.Boolean.{IsBoolean};
-ghost use Rattle.sc_branch.specs.Growing.{IsHeldAfter, IsOn, Concludes};
+ghost use Rattle.sc_branch.specs.Growing.{IsHeldAfter, IsOn};
 
-use crate::agenda::Agenda;
-use crate::deciding::{Due, first_due};
+use crate::candidate::candidate;
 use crate::growth::Growing;
-use crate::model::model_of;
-use crate::spread::spread;
+use crate::labels::labelled;
+use crate::refine::{needed_split, useful_split};
+use crate::spread::{Tables, spread};
 use sc_deriv::{Closing, Step, Steps};
-use sc_facts::{FactName, Path};
+use sc_facts::Path;
+use sc_model::{Due, first_due, model_of};
 use sc_rules::PlainStep;
 use sc_terms::{Bank, Memory, Problem};
 use sc_tree::{Cause, Event};
@@ -22,7 +24,7 @@ use std::marker::Model;
 #[derive(Drop)]
 pub struct Branch {
     growing: Growing,
-    agenda: Agenda,
+    tables: Tables,
 }
 
 impl Model for Branch {
@@ -48,21 +50,22 @@ impl Branch {
     {
         Ok(Branch {
             growing: Growing::new(alloc, path, steps)?,
-            agenda: Agenda::new(alloc, problem)?,
+            tables: Tables::new(alloc, problem)?,
         })
     }
 
-    /// What may be done at a leaf with this path, so that the search goes on: the leaf is closed where a clash stands on the path. Else the path goes on by steps that each conclude a new fact, where signs spread to parts or from parts to formulas. Else the leaf is split by a cut on a formula that has no sign, where the path has a sign that it does not bear out. Where it bears out all its signs, the values that are read off it make the problem true. The leaf is given up exactly where the path has as many steps as the budget allows, no clash stands, and some sign is not borne out.
+    /// What may be done at a leaf with this path, so that the search goes on: the leaf is closed where a clash stands on the path. Else the path goes on by steps that each conclude a new fact. Else, where the values that are read off the path make every assertion true, they are found. Else the leaf is split: by a cut on a formula or a membership, or on which of two different sets has their differing element. A path on which nothing is due has a model.
     ///
-    /// `_bank` has the nodes of which the problem is made; no event of the Boolean part looks at it. `budget` is the greatest number of steps on a path. The only error is want of memory, after which the branch is of no further use.
+    /// `bank` has the nodes of which the problem is made: the assertions are tried there. `budget` is the greatest number of steps on a path; the leaf is given up only where the path has so many, no clash stands, and the values that are read off it do not do. The only error is want of memory, after which the branch is of no further use.
     pub fn advance(
         &mut self,
         alloc: Global,
         problem: &Problem,
-        _bank: &Bank,
+        bank: &Bank,
         budget: u64,
     ) -> Result<Event, Memory>
-        requires boolean { IsBoolean problem.now }
+        requires pure { IsPure problem.now }
+        requires of_bank { IsOfBank problem.now bank.now }
         requires on { IsOn problem.now budget self.old.path.facts self.old.steps }
         ensures allowed { IfOk result (AllowsOn problem.now budget self.old.path.facts self.old.steps) }
         ensures held { IfOk result (λ event. IsHeldAfter problem.now self.old event self.new) }
@@ -70,35 +73,98 @@ impl Branch {
         if let Some(name) = self.growing.clash() {
             return Ok(Event::Close(Closing::Clash(name.clone()?)));
         }
-        let spread = spread(&mut self.growing, &mut self.agenda, alloc, problem, budget);
+        let spread = spread(&mut self.growing, &mut self.tables, alloc, problem, budget);
         let chain = self.growing.take_chain(alloc);
         spread?;
         if !chain.is_empty() {
             return Ok(Event::Grow(chain));
         }
-        let event = self.decide(alloc, problem, budget)?;
+        let event = self.decide(alloc, problem, bank, budget)?;
         Ok(event)
     }
 
     /// What may be done at a leaf with this path, on which no clash stands.
-    fn decide(&mut self, alloc: Global, problem: &Problem, budget: u64) -> Result<Event, Memory>
-        requires boolean { IsBoolean problem.now }
+    fn decide(
+        &mut self,
+        alloc: Global,
+        problem: &Problem,
+        bank: &Bank,
+        budget: u64,
+    ) -> Result<Event, Memory>
+        requires pure { IsPure problem.now }
+        requires of_bank { IsOfBank problem.now bank.now }
         requires on { IsOn problem.now budget self.old.path.facts self.old.steps }
         requires apart { HasNoClash self.old.path.facts }
         ensures allowed { IfOk result (AllowsOn problem.now budget self.old.path.facts self.old.steps) }
         ensures held { IfOk result (λ event. IsHeldAfter problem.now self.old event self.new) }
     {
-        let Some(due) = first_due(problem, self.growing.path()) else {
-            return Ok(Event::Found(model_of(alloc, problem, self.growing.path())?));
-        };
+        let needed = needed_split(&self.growing, &self.tables, alloc, problem)?;
+        if needed.is_none() {
+            let found = candidate(alloc, problem, bank, self.growing.path(), &self.tables.said)?;
+            if let Some(values) = found {
+                return Ok(Event::Found(values));
+            }
+        }
         if self.growing.len() as u64 >= budget {
             return Ok(Event::Spend(Cause::Budget));
         }
-        match due {
-            Due::Cut(formula) => Ok(Event::Split(Step::Plain(PlainStep::Cut(FactName::Sign(
-                formula,
-            ))))),
-            Due::Take(step) => self.take(alloc, problem, budget, step),
+        match self.split(alloc, problem, needed)? {
+            Some(step) => Ok(self.split_by(problem, budget, step)),
+            None => self.settle(alloc, problem, budget),
+        }
+    }
+
+    /// A split that looks useful, where there is one: the needed one, or else one that may matter to whether sets are equal.
+    fn split(
+        &self,
+        alloc: Global,
+        problem: &Problem,
+        needed: Option<PlainStep>,
+    ) -> Result<Option<PlainStep>, Memory>
+        ensures { IfOk result (λ step. IfSome step (Divides problem.now self.now.path.facts)) }
+    {
+        let proposed = match needed {
+            Some(step) => Some(step),
+            None => useful_split(self.growing.path(), &self.tables, alloc, problem)?,
+        };
+        let Some(step) = proposed else {
+            return Ok(None);
+        };
+        if self.growing.can_split(alloc, problem, &step)? {
+            return Ok(Some(step));
+        }
+        Ok(None)
+    }
+
+    /// The leaf is split by a step each of whose branches brings something new.
+    fn split_by(&self, problem: &Problem, budget: u64, step: PlainStep) -> Event
+        requires on { IsOn problem.now budget self.now.path.facts self.now.steps }
+        requires divides { Divides problem.now self.now.path.facts step }
+        requires room { length self.now.steps < budget }
+        ensures allowed { AllowsOn problem.now budget self.now.path.facts self.now.steps result }
+        ensures held { IsHeldAfter problem.now self.now result self.now }
+    {
+        Event::Split(Step::Plain(step))
+    }
+
+    /// What is due on the path; where nothing is, the values that are read off it are found.
+    fn settle(&mut self, alloc: Global, problem: &Problem, budget: u64) -> Result<Event, Memory>
+        requires pure { IsPure problem.now }
+        requires on { IsOn problem.now budget self.old.path.facts self.old.steps }
+        requires apart { HasNoClash self.old.path.facts }
+        requires room { length self.old.steps < budget }
+        ensures allowed { IfOk result (AllowsOn problem.now budget self.old.path.facts self.old.steps) }
+        ensures held { IfOk result (λ event. IsHeldAfter problem.now self.old event self.new) }
+    {
+        let path = self.growing.path();
+        let (classes, labels) = labelled(alloc, problem, path)?;
+        match first_due(alloc, problem, path, &classes, labels.as_slice())? {
+            None => {
+                let values = model_of(alloc, problem, path, labels.as_slice())?;
+                Ok(Event::Found(values))
+            }
+            Some(Due::Split(step)) => Ok(self.split_by(problem, budget, step)),
+            Some(Due::Take(step)) => self.take(alloc, problem, budget, step),
         }
     }
 

@@ -1,10 +1,14 @@
 //! A path that grows step by step.
 
-ghost use Rattle.std.specs.Prelude.{◌≡◌, ◌≢◌, ◌<◌, [], ◌∷◌, length, Some, IfOk, OnOk};
+ghost use Rattle.std.specs.Prelude.{◌≡◌, ◌≢◌, ◌<◌, ◌&&◌, true, [], ◌∷◌, length, Some, IfOk, OnOk};
+ghost use Rattle.std.specs.List.{list_all};
 ghost use Rattle.std.specs.Option.{option_copied};
+ghost use Rattle.sc_facts.specs.Facts.{has};
 ghost use Rattle.sc_rules.specs.Steps.{branches};
+ghost use Rattle.sc_tree.specs.Lean as spec;
 ghost use Rattle.sc_branch.specs.Clashes.{IsClash};
-ghost use Rattle.sc_branch.specs.Growing.{GoesOn, Concludes, Adds, sole};
+ghost use Rattle.sc_model.specs.Deciding.{Concludes, Divides, sole};
+ghost use Rattle.sc_branch.specs.Growing.{GoesOn, Adds};
 
 use crate::clash::{clash_of, first_clash, name_of};
 use sc_deriv::{Step, Steps, Taken};
@@ -63,6 +67,27 @@ fn conclusion(
         Err(StepError::NotApplicable) => Ok(None),
         Err(StepError::Memory) => Err(Memory),
     }
+}
+
+/// Whether all of the facts are on the path.
+fn has_all(path: &Path, facts: &[Fact]) -> bool
+    ensures { result ≡ list_all (has path.now.facts) facts.now }
+{
+    facts.iter().all(|fact| path.has(fact))
+}
+
+/// Whether some of the facts is not on the path.
+fn brings_more(path: &Path, facts: &Facts) -> bool
+    ensures { result ≡ spec.brings_more path.now.facts facts.now }
+{
+    !has_all(path, facts.as_slice())
+}
+
+/// Whether some fact of each of two lists is not on the path.
+fn both_bring_more(path: &Path, first: &Facts, second: &Facts) -> bool
+    ensures { result ≡ (spec.brings_more path.now.facts first.now && spec.brings_more path.now.facts second.now) }
+{
+    brings_more(path, first) && brings_more(path, second)
 }
 
 impl Growing {
@@ -146,5 +171,22 @@ impl Growing {
         }
         self.add(step, fact)?;
         Ok(())
+    }
+
+    /// Whether the step has two branches at the path, each of which brings a fact that the path lacks.
+    pub(crate) fn can_split(
+        &self,
+        alloc: Global,
+        problem: &Problem,
+        step: &PlainStep,
+    ) -> Result<bool, Memory>
+        ensures { IfOk result (λ yes. yes ≡ true → Divides problem.now self.now.path.facts step.now) }
+    {
+        match apply(alloc, problem, &self.path, step) {
+            Ok(Branches::Two(first, second)) => { Ok(both_bring_more(&self.path, &first, &second)) }
+            Ok(Branches::One(_)) => Ok(false),
+            Err(StepError::NotApplicable) => Ok(false),
+            Err(StepError::Memory) => Err(Memory),
+        }
     }
 }

@@ -1,17 +1,17 @@
-//! The search on one path.
-//!
-//! A path whose signs bear each other out has a model, which is read off it: a tableau's open branch that is saturated is satisfiable (Smullyan, "First-Order Logic", 1968).
+//! The search on one path: steps that follow from its facts, values that are read off it and tried on the assertions, and splits.
 #![tactic(auto)]
 
 mod agenda;
 mod branch;
+mod candidate;
 mod clash;
-mod deciding;
 mod growth;
-mod laws;
-mod model;
+mod labels;
+mod lists;
+mod members;
+mod refine;
+mod said;
 mod spread;
+mod terms;
 
 pub use branch::Branch;
-pub use laws::{full_paths_are_settled, settled_paths_have_models};
-pub use model::model_of;

@@ -3,8 +3,14 @@
 ghost use Rattle.std.specs.Prelude.{OnOk};
 ghost use Rattle.sc_branch.specs.Growing.{GoesOn};
 
-use crate::agenda::{Agenda, Signed};
+use crate::agenda::{Agenda, News, Signed};
 use crate::growth::Growing;
+use crate::members::{
+    follow_different, follow_equal, follow_equal_sets, follow_member, follow_unequal_sets,
+    spread_singles,
+};
+use crate::said::Said;
+use crate::terms::Terms;
 use sc_facts::Fact;
 use sc_rules::PlainStep;
 use sc_terms::{Formula, Memory, Problem};
@@ -103,7 +109,7 @@ fn spread_down(
 {
     let formula = signed.formula;
     match (problem.find_formula(formula), signed.sign) {
-        (Some(Formula::Member(_, _)), _) => {
+        (Some(Formula::Member(_, _) | Formula::Eq(_, _) | Formula::EqSet(_, _)), _) => {
             growing.attempt(alloc, problem, budget, PlainStep::Atom(formula))
         }
         (Some(Formula::And(parts)), true) | (Some(Formula::Or(parts)), false) => {
@@ -214,28 +220,81 @@ fn spread_constants(
     Ok(())
 }
 
-/// Takes steps that conclude new facts, until the followed-up path has no more for which the agenda has a hint, a clash stands, or the budget is spent.
+/// Takes the steps that what a fact says calls for.
+fn follow(
+    growing: &mut Growing,
+    tables: &mut Tables,
+    alloc: Global,
+    problem: &Problem,
+    budget: u64,
+    news: News,
+) -> Result<(), Memory>
+    ensures { OnOk result (GoesOn problem.now budget growing.old growing.new) }
+{
+    let agenda = &mut tables.agenda;
+    let said = &mut tables.said;
+    let terms = &tables.terms;
+    match news {
+        News::Sign(signed) => {
+            spread_down(growing, agenda, alloc, problem, budget, signed)?;
+            spread_to_parents(growing, agenda, alloc, problem, budget, signed)
+        }
+        News::Member(e, s) => follow_member(growing, said, terms, alloc, problem, budget, e, s),
+        News::Equal(e, f, true) => follow_equal(growing, said, alloc, problem, budget, e, f),
+        News::Equal(e, f, false) => {
+            follow_different(growing, said, terms, alloc, problem, budget, e, f)
+        }
+        News::EqualSets(s, t, true) => {
+            follow_equal_sets(growing, said, alloc, problem, budget, s, t)
+        }
+        News::EqualSets(s, t, false) => {
+            follow_unequal_sets(growing, said, alloc, problem, budget, s, t)
+        }
+        News::Nothing => Ok(()),
+    }
+}
+
+/// What is kept beside a path to spread what it says.
+#[derive(Drop)]
+pub(crate) struct Tables {
+    pub agenda: Agenda,
+    pub terms: Terms,
+    pub said: Said,
+}
+
+impl Tables {
+    /// The tables of a problem, over a path of which nothing was followed up; linear in the problem.
+    pub(crate) fn new(alloc: Global, problem: &Problem) -> Result<Tables, Memory> {
+        Ok(Tables {
+            agenda: Agenda::new(alloc, problem)?,
+            terms: Terms::new(alloc, problem)?,
+            said: Said::new(alloc, problem)?,
+        })
+    }
+}
+
+/// Takes steps that conclude new facts, until the followed-up path has no more for which the tables have a hint, a clash stands, or the budget is spent.
 pub(crate) fn spread(
     growing: &mut Growing,
-    agenda: &mut Agenda,
+    tables: &mut Tables,
     alloc: Global,
     problem: &Problem,
     budget: u64,
 ) -> Result<(), Memory>
     ensures { OnOk result (GoesOn problem.now budget growing.old growing.new) }
 {
-    if agenda.is_fresh() {
+    if tables.agenda.is_fresh() {
         spread_constants(growing, alloc, problem, budget)?;
+        spread_singles(growing, alloc, problem, budget)?;
     }
     for _ in 0..u64::MAX {
         if growing.clash().is_some() {
             return Ok(());
         }
-        let Some(signed) = agenda.next(growing.path()) else {
+        let Some(news) = tables.agenda.next(growing.path()) else {
             return Ok(());
         };
-        spread_down(growing, agenda, alloc, problem, budget, signed)?;
-        spread_to_parents(growing, agenda, alloc, problem, budget, signed)?;
+        follow(growing, tables, alloc, problem, budget, news)?;
     }
     Ok(())
 }

@@ -1,0 +1,178 @@
+//! Which cuts look useful on a path that spreads no further. What is proposed here is judged before it is taken, so a bad choice costs time alone.
+
+use crate::growth::Growing;
+use crate::said::Said;
+use crate::spread::Tables;
+use sc_facts::{FactName, Path};
+use sc_rules::{PlainStep, membership_of, own_sign, sign_of};
+use sc_terms::{Formula, Memory, Problem, SetTerm};
+use std::alloc::Global;
+
+/// The first of the formulas that has no sign.
+fn unsigned_of(path: &Path, formulas: &[u32]) -> Option<u32> {
+    formulas
+        .iter()
+        .find(|formula| sign_of(path, **formula).is_none())
+        .copied()
+}
+
+/// A part without a sign of a formula that has a sign, which its parts' signs do not force.
+fn open_part(problem: &Problem, path: &Path, formula: u32) -> Option<u32> {
+    let sign = sign_of(path, formula)?;
+    let node = problem.find_formula(formula)?;
+    if own_sign(path, node) == Some(sign) {
+        return None;
+    }
+    match node {
+        Formula::Not(f) => unsigned_of(path, &[*f]),
+        Formula::And(parts) | Formula::Or(parts) => unsigned_of(path, parts.as_slice()),
+        Formula::Iff(f, g) => unsigned_of(path, &[*f, *g]),
+        _ => None,
+    }
+}
+
+/// A cut on the sign of a part of a formula whose sign is not borne out.
+fn cut_on_formula(problem: &Problem, path: &Path) -> Option<PlainStep> {
+    for place in 0..problem.counts().formulas {
+        if let Some(part) = open_part(problem, path, place + 1) {
+            return Some(PlainStep::Cut(FactName::Sign(part)));
+        }
+    }
+    None
+}
+
+/// The argument of a set term on which an element's membership in the term still depends, though the term's own is known.
+fn open_argument(problem: &Problem, path: &Path, element: u32, set: u32) -> Option<u32> {
+    let inside = membership_of(path, element, set)?;
+    let (a, b) = match (problem.find_set(set)?, inside) {
+        (SetTerm::Union(a, b), true) => (*a, *b),
+        (SetTerm::Inter(a, b), false) => (*a, *b),
+        (SetTerm::Minus(a, b), false) => (*a, *b),
+        _ => return None,
+    };
+    if membership_of(path, element, a).is_none() && membership_of(path, element, b).is_none() {
+        return Some(a);
+    }
+    None
+}
+
+/// A cut on an element's membership in an argument of a set term.
+fn cut_on_argument(problem: &Problem, path: &Path, said: &Said) -> Option<PlainStep> {
+    for (element, set) in said.memberships.as_slice() {
+        if said.label(*element) == *element {
+            if let Some(argument) = open_argument(problem, path, *element, *set) {
+                return Some(PlainStep::Cut(FactName::Member(*element, argument)));
+            }
+        }
+    }
+    None
+}
+
+/// A split on which of two different sets has their differing element.
+fn split_on_difference(
+    growing: &Growing,
+    said: &Said,
+    alloc: Global,
+    problem: &Problem,
+) -> Result<Option<PlainStep>, Memory> {
+    for (s, t) in said.unequal_sets.as_slice() {
+        let step = PlainStep::Differ(*s, *t);
+        if growing.can_split(alloc, problem, &step)? {
+            return Ok(Some(step));
+        }
+    }
+    Ok(None)
+}
+
+/// A split without which the values that are read off the path cannot be right.
+pub(crate) fn needed_split(
+    growing: &Growing,
+    tables: &Tables,
+    alloc: Global,
+    problem: &Problem,
+) -> Result<Option<PlainStep>, Memory> {
+    let path = growing.path();
+    if let Some(step) = cut_on_formula(problem, path) {
+        return Ok(Some(step));
+    }
+    if let Some(step) = split_on_difference(growing, &tables.said, alloc, problem)? {
+        return Ok(Some(step));
+    }
+    Ok(cut_on_argument(problem, path, &tables.said))
+}
+
+/// Whether the walk comes to a term for the first time; then it is marked with the element.
+fn is_first(marks: &mut [u32], set: u32, element: u32) -> bool {
+    if set == 0 {
+        return false;
+    }
+    let Some(mark) = marks.get_mut(set as usize - 1) else {
+        return false;
+    };
+    let first = *mark != element;
+    *mark = element;
+    first
+}
+
+/// The terms over a set term in which the path doesn't say whether an element is, and to which the walk comes for the first time.
+fn open_parents(
+    path: &Path,
+    tables: &Tables,
+    element: u32,
+    set: u32,
+    marks: &mut [u32],
+    pending: &mut Vec<u32>,
+) -> Result<(), Memory> {
+    for parent in tables.terms.parents(set) {
+        if is_first(marks, *parent, element) && membership_of(path, element, *parent).is_none() {
+            pending.push(*parent)?;
+        }
+    }
+    Ok(())
+}
+
+/// A set term that the path says to equal another, in which it doesn't say whether an element is, though it does for a part of the term.
+fn open_equal(
+    path: &Path,
+    tables: &Tables,
+    alloc: Global,
+    element: u32,
+    marks: &mut [u32],
+) -> Result<Option<u32>, Memory> {
+    let mut pending = Vec::new(alloc);
+    for set in tables.said.sets.of(element) {
+        open_parents(path, tables, element, *set, marks, &mut pending)?;
+    }
+    for _ in 0..u64::MAX {
+        let Some(set) = pending.pop() else {
+            return Ok(None);
+        };
+        if !tables.said.equal_sets.of(set).is_empty() {
+            return Ok(Some(set));
+        }
+        open_parents(path, tables, element, set, marks, &mut pending)?;
+    }
+    Ok(None)
+}
+
+/// A cut that may matter to whether sets that are said to be equal are equal by the values that are read off the path.
+pub(crate) fn useful_split(
+    path: &Path,
+    tables: &Tables,
+    alloc: Global,
+    problem: &Problem,
+) -> Result<Option<PlainStep>, Memory> {
+    let mut marks = Vec::new(alloc);
+    for _ in 0..problem.counts().sets {
+        marks.push(0)?;
+    }
+    for place in 0..problem.counts().elements {
+        let element = place + 1;
+        if tables.said.label(element) == element {
+            if let Some(set) = open_equal(path, tables, alloc, element, &mut marks)? {
+                return Ok(Some(PlainStep::Cut(FactName::Member(element, set))));
+            }
+        }
+    }
+    Ok(None)
+}
