@@ -1,4 +1,4 @@
-pub mod Booleans
+pub mod Pures
 pub mod Standing
 pub mod Doing
 pub mod Trees

@@ -14,14 +14,16 @@ use Rattle.sc_terms.specs.declared.nodes.Node.TheVariants as nodes
 use Rattle.sc_terms.specs.declared.nodes.SetTerm.{SetTerm}
 use Rattle.sc_terms.specs.declared.nodes.SetTerm.TheVariants as sets
 use Rattle.sc_terms.specs.declared.nodes.Sort.{Sort}
+use Rattle.sc_terms.specs.declared.nodes.Sort.TheVariants as sorts
 use Rattle.sc_text.specs.declared.code.Code.{Code}
 use Rattle.std.specs.Prelude.{Result, Ok, Err}
 use Rattle.sc_stack.specs.declared.stack.StackError.{StackError}
 use Rattle.sc_stack.specs.declared.stack.StackError.TheVariants as errors
 use Rattle.sc_terms.specs.Bank.{Begins, HasSorts, NodeHasSorts, FormulaHasSorts, SetHasSorts, ElementHasSorts, FormHasSorts, AtomHasSorts, IsFormulaOf, is_formula}
-use Rattle.sc_elab.specs.Boolean.{AreBoolean}
+use Rattle.sc_sorts.specs.Sorted.{NodeIsSorted, IsWellSortedBank}
+use Rattle.sc_sorts.specs.Pure.{IsPureBank}
 use Rattle.sc_stack.specs.declared.stack.Constant.{Constant}
-use Rattle.sc_stack.specs.Names.{Names, Level, Declares, on_last, sorts_of, assertions_in_force, with_sort, with_constant, with_assertion}
+use Rattle.sc_stack.specs.Names.{Names, Level, no_names, Declares, on_last, sorts_of, assertions_in_force, with_sort, with_constant, with_assertion}
 use Rattle.sc_session.specs.States.{IsSorted}
 
 -- ---- a number keeps its item
@@ -122,24 +124,37 @@ one_more_sort names c = map-append (λ (d : Constant). d.sort) names.constants (
 
 -- ---- sessions
 pub sorted_sort : (bank : List Node) (names : Names) (name : List ℕ) → IsSorted bank names → IsSorted bank (with_sort names name)
-sorted_sort bank names name h = record { boolean = h.boolean; sorts = h.sorts; assertions = subst (AllByRecursion (IsFormulaOf bank)) (sym (sort_asserts_none names name)) h.assertions }
+sorted_sort bank names name h = record { pure = h.pure; well_sorted = h.well_sorted; sorts = h.sorts; assertions = subst (AllByRecursion (IsFormulaOf bank)) (sym (sort_asserts_none names name)) h.assertions }
 
 pub sorted_constant : (bank : List Node) (names : Names) (c : Constant) → IsSorted bank names → IsSorted bank (with_constant names c)
 sorted_constant bank names c h = record {
-  boolean = h.boolean;
+  pure = h.pure;
+  well_sorted = h.well_sorted;
   sorts = subst (λ known. HasSorts known bank) (sym (one_more_sort names c)) (sorts_grow (sorts_of names) (c.sort ∷ []) bank h.sorts);
   assertions = subst (AllByRecursion (IsFormulaOf bank)) (sym (constant_asserts_none names c)) h.assertions;
 }
 
 pub sorted_assertion : (bank : List Node) (names : Names) (n : ℕ) → 1 ≤ length names.levels → IsFormulaOf bank n → IsSorted bank names → IsSorted bank (with_assertion names n)
 sorted_assertion bank names n some f h = record {
-  boolean = h.boolean;
+  pure = h.pure;
+  well_sorted = h.well_sorted;
   sorts = h.sorts;
   assertions = subst (AllByRecursion (IsFormulaOf bank)) (sym (one_more_assertion names n some)) (all-append (IsFormulaOf bank) (assertions_in_force names) (n ∷ []) h.assertions (f, tt));
 }
 
-pub sorted_bank : (old new : List Node) (names : Names) → Begins old new → AreBoolean new → HasSorts (sorts_of names) new → IsSorted old names → IsSorted new names
-sorted_bank old new names b t s h = record { boolean = t; sorts = s; assertions = still_formulas old new (assertions_in_force names) b h.assertions }
+pub sorted_bank : (old new : List Node) (names : Names) → Begins old new → IsPureBank new → IsWellSortedBank new → HasSorts (sorts_of names) new → IsSorted old names → IsSorted new names
+sorted_bank old new names b p w s h = record { pure = p; well_sorted = w; sorts = s; assertions = still_formulas old new (assertions_in_force names) b h.assertions }
+
+-- nothing was made yet, and nothing is asserted
+none_well_sorted : IsWellSortedBank []
+none_well_sorted = (record { members = λ n. sorts.Int; element = λ n. sorts.Int }, nothing) where
+  nothing : (n : ℕ) (x : Node) → item_at [] n ≡ Some x → NodeIsSorted (record { members = λ k. sorts.Int; element = λ k. sorts.Int }) n x
+  nothing zero x at = absurd cc
+  nothing (suc n) x at = absurd cc
+
+pub sorted_none : (bank : List Node) (names : Names) → bank ≡ [] → names ≡ no_names → IsSorted bank names
+sorted_none bank names b n =
+    subst (λ k. IsSorted k names) (sym b) (subst (IsSorted []) (sym n) (record { pure = tt; well_sorted = none_well_sorted; sorts = tt; assertions = tt }))
 
 -- a declaration that was tried
 pub sorted_declared : (bank : List Node) (old made new : Names) (fault : Option Code) (number : ℕ) (tried : Result ℕ StackError) → Declares old fault made number tried new → IsSorted bank old → IsSorted bank made → IsSorted bank new

@@ -3,7 +3,8 @@ use Rattle.std.specs.Prelude.{List, [], ◌∷◌, ◌++◌}
 use Rattle.std.specs.List.{AllByRecursion}
 use Rattle.sc_terms.specs.declared.nodes.Node.{Node}
 use Rattle.sc_terms.specs.Bank.{IsBank, IsFormulaOf, HasSorts}
-use Rattle.sc_elab.specs.Boolean.{AreBoolean}
+use Rattle.sc_sorts.specs.Sorted.{IsWellSortedBank}
+use Rattle.sc_sorts.specs.Pure.{IsPureBank}
 use Rattle.sc_stack.specs.Names.{Names, IsNames, no_names, sorts_of, assertions_in_force}
 use Rattle.sc_tree.specs.declared.verdict.Verdict.{Verdict}
 
@@ -30,9 +31,10 @@ with_names s names = record { bank = s.bank; names = names; verdicts = s.verdict
 abbrev pub with_verdict : State → Verdict → State
 with_verdict s v = record { bank = s.bank; names = s.names; verdicts = s.verdicts ++ v ∷ [] }
 
--- The nodes are truth values, their combinations, memberships and constants. The constants have the sorts that were declared, and each assertion in force is a formula of the bank.
+-- The nodes are well sorted, and no inequality or Int term is among them. The constants have the sorts that were declared, and each assertion in force is a formula of the bank.
 pub record IsSorted (bank : List Node) (names : Names) : Type 0 where
-  pub boolean : AreBoolean bank
+  pub pure : IsPureBank bank
+  pub well_sorted : IsWellSortedBank bank
   pub sorts : HasSorts (sorts_of names) bank
   pub assertions : AllByRecursion (IsFormulaOf bank) (assertions_in_force names)
 

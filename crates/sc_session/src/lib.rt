@@ -8,17 +8,17 @@
 //! what the responses to a whole script are. That the formulas which are decided say what the
 //! script's own terms say, and that a just verdict is right for these terms, is
 //! [`sessions_say_the_same`]. Every text is exactly one script ([`scripts_are_read`]). The problems
-//! of check-sats are of truth values and memberships of constants alone ([`stocks_are_boolean`]).
+//! of check-sats are well sorted, and of pure sets ([`stocks_are_pure`]).
 #![tactic(auto)]
 
-mod boolean;
 mod laws;
+mod pure;
 mod response;
 mod session;
 mod verdicts;
 
-pub use boolean::stocks_are_boolean;
 pub use laws::{scripts_are_read, sessions_say_the_same};
+pub use pure::{stocks_are_of_banks, stocks_are_pure};
 pub use response::{Response, fault_line, verdict_line};
 pub use session::Session;
 pub use verdicts::Verdicts;

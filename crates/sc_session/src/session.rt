@@ -15,14 +15,12 @@ ghost use Rattle.sc_session.specs.Effects.{effect, turn, is_taken, assert_of};
 ghost use Rattle.sc_session.specs.Doing.{Does};
 ghost use Rattle.sc_session.specs.Doing as doing;
 
-use crate::boolean::stocks_are_boolean;
+use crate::pure::{stocks_are_of_banks, stocks_are_pure};
 use crate::response::{Response, line as line_of, quiet, refusal, told};
 use crate::verdicts::Verdicts;
 use sc_base::Sequence;
 use sc_commands::{Command, read_command};
-use sc_elab::{
-    ElabError, elaborate, elaboration_stays_boolean, read_sort, read_sorts_are_declared,
-};
+use sc_elab::{ElabError, elaborate, elaboration_stays_pure, read_sort, read_sorts_are_declared};
 use sc_flatten::prepare;
 use sc_sexpr::{Items, Tree, read_tree};
 use sc_stack::{Stack, StackError};
@@ -188,11 +186,12 @@ impl Session {
         Ok(quiet(self.alloc))
     }
 
-    #[tactic(auto, using(crate::proofs::Standing::sorted_bank))]
+    #[tactic(auto, using(crate::proofs::Standing::sorted_bank, crate::proofs::Standing::sorted_none))]
     fn assert(&mut self, term: &Tree<'_>, line: u64) -> Result<Response, Memory>
         ensures { (b : ℕ) → Does self.old (effect self.old (Assert (shape term.now)) line) b result self.new }
     {
-        elaboration_stays_boolean();
+        elaboration_stays_pure();
+        tell(&self.bank, &self.stack);
         match elaborate(self.alloc, term, &self.stack, &mut self.bank) {
             Ok(formula) => self.assert_formula(formula),
             Err(ElabError::Fault(code)) => refusal(self.alloc, line, code),
@@ -216,7 +215,8 @@ impl Session {
         if self.verdicts.as_slice().len() >= MOST_CHECKS {
             return refusal(self.alloc, line, Code::E16(MOST_CHECKS as u64));
         }
-        stocks_are_boolean();
+        stocks_are_pure();
+        stocks_are_of_banks();
         tell(&self.bank, &self.stack);
         let problem = prepare(self.alloc, &self.bank, self.stack.in_force())?;
         let verdict = decider.decide(self.alloc, &problem, &self.bank, budget)?;

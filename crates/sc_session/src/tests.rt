@@ -24,7 +24,7 @@ impl Decider for Mute {
 }
 
 /// The commands of one session, and what is said to each: whole lines, or how an error begins.
-const COMMANDS: [(&str, &str); 24] = [
+const COMMANDS: [(&str, &str); 26] = [
     ("(set-logic ALL)", ""),
     ("(set-info :status sat)", ""),
     ("(declare-sort U 0)", ""),
@@ -40,7 +40,9 @@ const COMMANDS: [(&str, &str); 24] = [
     ("(assert p)", ""),
     ("(assert (=> p (not (set.member x A))))", ""),
     ("(assert (and true (or p false)))", ""),
-    ("(assert (= x x))", "(error \"line 1: E8"),
+    ("(assert (= x x))", ""),
+    ("(assert (set.subset A (set.insert x A)))", ""),
+    ("(assert (= (set.card A) 1))", "(error \"line 1: E8"),
     ("(assert x)", "(error \"line 1: E7"),
     ("(assert z)", "(error \"line 1: E6"),
     ("(check-sat 1)", "(error \"line 1: E5"),

@@ -1,5 +1,5 @@
 -- How a run that solves ends, and why.
-use Rattle.std.specs.Prelude.{◌≡◌, ◌⊎◌, ℕ, true, false, List, [], ◌+◌, ◌++◌}
+use Rattle.std.specs.Prelude.{◌≡◌, ◌⊎◌, ℕ, true, false, List, [], ◌+◌, ◌<◌, ◌++◌, length}
 use Rattle.sc_io.specs.Moments.{SourceMoment, SinkMoment}
 use Rattle.sc_io.specs.Writing.{IsWritten, IsCutByFault, IsCutByMemory}
 use Rattle.sc_sexpr.specs.Scans.{Reading}
@@ -47,6 +47,8 @@ pub record IsSolved (budget : ℕ) (before after : Moment) (e : Ending) (verdict
   pub gathered : IsGathered before.source after.source text
   pub script : Script
   pub reads : Reads text script
+  -- what follows a text that is longer than a script may have does not matter
+  pub long : most_bytes < length text → (more : List ℕ) → Reads (text ++ more) script
   pub responds : Responds budget script before.sink after.sink e verdicts
 
 -- nothing was written, and no check-sat was done

@@ -9,6 +9,7 @@ use crate::gather::{GatherError, gather};
 use crate::respond::respond;
 use sc_io::{Sink, Source};
 use sc_session::{Session, Verdicts, scripts_are_read};
+use sc_sexpr::long_texts_are_cut;
 use sc_tree::Decider;
 use std::alloc::Global;
 
@@ -35,6 +36,7 @@ fn run<S: Source, O: Sink, D: Decider>(
     ensures { SolveEnds budget (at_moment (S.moment source.old) (O.moment out.old)) (at_moment (S.moment source.new) (O.moment out.new)) result session.new.verdicts }
 {
     scripts_are_read();
+    long_texts_are_cut();
     match gather(alloc, source) {
         Ok(mut splitter) => {
             let ending = respond(alloc, &mut splitter, session, budget, decider, out);

@@ -23,6 +23,8 @@ use std::process::ExitCode;
 use std::{env, io};
 
 #[cfg(test)]
+mod set_tests;
+#[cfg(test)]
 mod tests;
 
 /// The status for want of memory.

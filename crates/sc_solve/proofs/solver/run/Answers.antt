@@ -7,4 +7,4 @@ returns-in-Ok g c =
     let before : Moment = at_moment (g.S.Source.moment c.args.source.now) (g.O.Sink.moment c.args.out.now) in
     let after : Moment = at_moment (g.S.Source.moment c.gather.new.source) (g.O.Sink.moment c.respond-ending.new.out) in
     let f = c.in-Ok.ensures in
-    solves c.scripts_are_read.ensures c.args.budget before after c.in-Ok.splitter f.0 f.1 f.2 c.respond-ending.result c.respond-ending.new.session.verdicts c.respond-ending.ensures
+    solves c.scripts_are_read.ensures c.long_texts_are_cut.ensures c.args.budget before after c.in-Ok.splitter f.0 f.1 f.2 c.respond-ending.result c.respond-ending.new.session.verdicts c.respond-ending.ensures

@@ -1,6 +1,8 @@
 use Rattle.std.proofs.Common.{subst, sym}
+use Rattle.std.specs.List.{AllByRecursion}
+use Rattle.sc_terms.specs.Bank.{IsFormulaOf}
 use Rattle.sc_stack.specs.Names.{sorts_of}
-use Rattle.sc_tree.specs.Boolean.{IsBoolean}
+use Rattle.sc_sorts.specs.Pure.{IsPure, IsOfBank}
 use Rattle.sc_session.specs.States.{state}
 use Rattle.sc_session.proofs.Doing.{is_checked}
 use Rattle.sc_session.proofs.session.Session.check_sat.Goals as goal
@@ -8,5 +10,12 @@ use Rattle.sc_session.proofs.session.Session.check_sat.Goals as goal
 pub returns : goal.returns
 returns g c = is_checked c.args.self.now (state c.self.inside.bank c.self.inside.stack c.self.inside.verdicts) c.args.line c.args.budget c.in_ok-verdict.verdict c.in_ok-response.response c.as_slice.result.now c.push.new.self c.in_ok-problem.problem c.in_force.result.now c.self.view_is c.as_slice.ensures c.if-as_slice-ge-MOST_CHECKS.false c.in_force.ensures c.in_ok-problem.ensures c.in_ok-verdict.ensures c.in_ok-response.ensures c.in_ok-push.ensures.ok
 
-pub decide-requires-clause-boolean : goal.decide-requires-clause-boolean
-decide-requires-clause-boolean g c = subst IsBoolean (sym c.in_ok-problem.ensures) (c.stocks_are_boolean.ensures (sorts_of c.self.inside.stack) c.self.inside.bank c.in_force.result.now c.tell.ensures.bank c.self.invariant.sorts c.self.invariant.boolean)
+pub decide-requires-clause-pure : goal.decide-requires-clause-pure
+decide-requires-clause-pure g c =
+    let formulas = subst (AllByRecursion (IsFormulaOf c.self.inside.bank)) (sym c.in_force.ensures) c.self.invariant.assertions in
+    subst IsPure (sym c.in_ok-problem.ensures) (c.stocks_are_pure.ensures (sorts_of c.self.inside.stack) c.self.inside.bank c.in_force.result.now c.tell.ensures.bank c.self.invariant.sorts c.self.invariant.pure c.self.invariant.well_sorted formulas)
+
+pub decide-requires-clause-of_bank : goal.decide-requires-clause-of_bank
+decide-requires-clause-of_bank g c =
+    let formulas = subst (AllByRecursion (IsFormulaOf c.self.inside.bank)) (sym c.in_force.ensures) c.self.invariant.assertions in
+    subst (λ problem. IsOfBank problem c.self.inside.bank) (sym c.in_ok-problem.ensures) (c.stocks_are_of_banks.ensures c.self.inside.bank c.in_force.result.now c.tell.ensures.bank formulas)
