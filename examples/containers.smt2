@@ -1,0 +1,11 @@
+; A cache holds keys of a store; after an insertion it still does, and a lookup of what was inserted can't miss.
+(set-logic ALL)
+(declare-sort Key 0)
+(declare-const k Key)
+(declare-const Store (Set Key))
+(declare-const Cache (Set Key))
+(declare-const Evicted (Set Key))
+(assert (set.subset Cache Store))
+(assert (set.member k Store))
+(assert (not (set.subset (set.insert k (set.minus Cache Evicted)) Store)))
+(check-sat)
