@@ -12,30 +12,22 @@ sets() {
   echo '(declare-const B (Set U))'
 }
 
-# OPERATOR FIRST..: the operator over the sets
-over() {
-  local operator=$1
-  shift
-  echo "($operator $*)"
-}
+# N OPERATOR: B with each of the sets under the operator
+each() { for i in $(seq 1 "$1"); do echo -n "($2 B A$i) "; done; }
 
 all() { for i in $(seq 1 "$1"); do echo -n "A$i "; done; }
 
 # B without the union is the intersection of the differences
 de_morgan() {
-  local n=$1 parts=
-  for i in $(seq 1 "$n"); do parts="$parts (set.minus B A$i)"; done
-  sets "$n"
-  echo "(assert (not (= (set.minus B (set.union $(all "$n"))) (set.inter $parts))))"
+  sets "$1"
+  echo "(assert (not (= (set.minus B (set.union $(all "$1"))) (set.inter $(each "$1" set.minus)))))"
   echo '(check-sat)'
 }
 
 # B with the union is the union of the intersections
 distributivity() {
-  local n=$1 parts=
-  for i in $(seq 1 "$n"); do parts="$parts (set.inter B A$i)"; done
-  sets "$n"
-  echo "(assert (not (= (set.inter B (set.union $(all "$n"))) (set.union $parts))))"
+  sets "$1"
+  echo "(assert (not (= (set.inter B (set.union $(all "$1"))) (set.union $(each "$1" set.inter)))))"
   echo '(check-sat)'
 }
 
