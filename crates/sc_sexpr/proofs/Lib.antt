@@ -1,3 +1,4 @@
+pub mod Gliding
 pub mod Going
 pub mod Skipping
 pub mod Showing

@@ -1,20 +1,18 @@
 -- Passing over the bytes that leave a state as it is.
-use Rattle.std.proofs.Common.{◌≡◌, ℕ, zero, suc, ◌+◌, ◌-◌, ◌<◌, ◌≤◌, Bool, true, false, ◌||◌, ◌==◌, not, if◌then◌else◌, List, length, take, drop, get_or, refl, sym, ap, ◌∙◌, arith, subst}
+use Rattle.std.proofs.Common.{◌≡◌, ℕ, zero, suc, ◌+◌, ◌-◌, ◌<◌, ◌≤◌, Bool, true, false, ◌||◌, ◌==◌, not, if◌then◌else◌, List, length, take, drop, get_or, refl, sym, ap, ◌∙◌, arith}
 use Rattle.std.specs.List.{prefix_len}
 use Rattle.std.proofs.lemmas.Bool.{eqb-true}
 use Rattle.std.proofs.lemmas.List.{get_or-drop, length-drop}
 use Rattle.std.proofs.lemmas.List.Sums.{prefix_len-le-length, prefix_len_passes}
 use Rattle.sc_text.specs.declared.mode.Mode.{Mode}
 use Rattle.sc_text.specs.declared.mode.Mode.TheVariants as mode
-use Rattle.sc_text.specs.declared.mode.Step.TheVariants as step
 use Rattle.sc_text.specs.Bytes.{is_white, is_break, is_symbol_byte}
-use Rattle.sc_text.specs.Modes.{is_start, stays, step_of}
+use Rattle.sc_text.specs.Modes.{is_start, stays}
 use Rattle.sc_text.proofs.Walks.{stays_goes}
 use Rattle.sc_sexpr.specs.declared.state.State.{State}
-use Rattle.sc_sexpr.specs.declared.state.Move.{Move}
 use Rattle.sc_sexpr.specs.declared.state.Move.TheVariants as move
 use Rattle.sc_sexpr.specs.declared.scan.Pass.{Pass}
-use Rattle.sc_sexpr.specs.Moves.{is_idle, line_after, fresh, continues, move_of, IsAhead}
+use Rattle.sc_sexpr.specs.Moves.{is_idle, line_after, fresh, continues, move_of}
 use Rattle.sc_sexpr.specs.Passes.{text_of, IsPlaced, IsResting, Follows, scan_from, is_blank, no_break, unmoved, further, Skips}
 use Rattle.sc_sexpr.specs.Scans.{text_after}
 use Rattle.sc_sexpr.proofs.Going.{part_none, scan_goes, text_idle, text_busy}

@@ -1,7 +1,5 @@
 -- What the code says of a pass over the bytes that a splitter holds.
 use Rattle.std.specs.Prelude.{◌≡◌, ℕ, ◌+◌, ◌-◌, ◌≤◌, Bool, true, ◌||◌, ◌==◌, not, if◌then◌else◌, List, take, drop, length}
-use Rattle.sc_text.specs.declared.mode.Mode.{Mode}
-use Rattle.sc_text.specs.declared.mode.Mode.TheVariants as mode
 use Rattle.sc_text.specs.Bytes.{is_break}
 use Rattle.sc_text.specs.Modes.{is_start, stays}
 use Rattle.sc_sexpr.specs.declared.state.State.{State}

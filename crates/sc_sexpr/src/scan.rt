@@ -137,6 +137,52 @@ impl Pass {
     }
 }
 
+impl Pass {
+    /// Behind the bytes from here on that leave the state as it is, and those with which the item at
+    /// hand goes on, where there is one.
+    #[inline(always)]
+    fn onward(self, bytes: &[u8]) -> Pass
+        requires placed { IsPlaced bytes.now self }
+        requires rests { IsResting self }
+        requires lines { self.state.line + self.room + 1 < 2 ^ 64 }
+        ensures { Skips bytes.now self result }
+    {
+        if self.state.is_idle() {
+            self.skipped(bytes)
+        } else {
+            self.along(bytes)
+        }
+    }
+
+    /// Behind the bytes from here on with which the item at hand goes on, or as many of them as may
+    /// be read.
+    #[inline(always)]
+    fn along(self, bytes: &[u8]) -> Pass
+        requires placed { IsPlaced bytes.now self }
+        requires busy { is_idle self.state ≡ false }
+        requires lines { self.state.line + self.room + 1 < 2 ^ 64 }
+        ensures { Skips bytes.now self result }
+    {
+        let (_, rest) = bytes.split_at(self.at);
+        let most = lesser(self.room, rest.len());
+        let mut state = self.state;
+        let mut count = 0;
+        while count < most {
+            match state.step(rest[count]) {
+                Move::Go(next) => state = next,
+                _ => break,
+            }
+            count += 1;
+        }
+        Pass {
+            state,
+            from: self.from,
+            at: self.at + count,
+            room: self.room - count as u64,
+        }
+    }
+}
+
 /// The first item from here on.
 pub(crate) fn scan(pass: Pass, bytes: &[u8]) -> Found
     requires placed { IsPlaced bytes.now pass }
@@ -153,7 +199,7 @@ pub(crate) fn scan(pass: Pass, bytes: &[u8]) -> Found
         match state.step(bytes[pass.at]) {
             Move::Go(next) => {
                 let behind = pass.passed(next);
-                pass = behind.skipped(bytes);
+                pass = behind.onward(bytes);
             }
             Move::Done(next) => {
                 return Found::Top(

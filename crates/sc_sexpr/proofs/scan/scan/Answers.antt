@@ -19,15 +19,15 @@ loop-pass-preserved c =
     let next : c.in-Go.next.line ≤ c.loop-pass.pass.state.line + 1 = c.in-Go.ensures.keeps.0 in
     let within : c.passed-behind.result.at ≤ length c.args.bytes.now = omega arith in
     record {
-      same = c.loop-pass.invariant.same ∙ scan_goes c.args.bytes.now c.loop-pass.pass c.passed-behind.result c.in-Go.next c.loop-pass-test.true some (sym c.step.ensures.value ∙ c.in-Go.is) c.passed-behind.ensures.state (c.passed-behind.ensures.text c.args.bytes.now c.loop-pass-test.true) c.passed-behind.ensures.room c.passed-behind.ensures.at ∙ c.skipped-pass.ensures.same;
-      rests = c.skipped-pass.ensures.resting;
-      follows = follows_on c.args.bytes.now c.args.pass c.passed-behind.result c.skipped-pass.result (record {
+      same = c.loop-pass.invariant.same ∙ scan_goes c.args.bytes.now c.loop-pass.pass c.passed-behind.result c.in-Go.next c.loop-pass-test.true some (sym c.step.ensures.value ∙ c.in-Go.is) c.passed-behind.ensures.state (c.passed-behind.ensures.text c.args.bytes.now c.loop-pass-test.true) c.passed-behind.ensures.room c.passed-behind.ensures.at ∙ c.onward-pass.ensures.same;
+      rests = c.onward-pass.ensures.resting;
+      follows = follows_on c.args.bytes.now c.args.pass c.passed-behind.result c.onward-pass.result (record {
         placed = record { order = c.passed-behind.ensures.order; within = within };
         grows = still_grows c.args.pass c.loop-pass.pass c.passed-behind.result c.in-Go.next c.loop-pass.invariant.follows.grows c.loop-pass.invariant.rests c.in-Go.ensures.keeps.1 c.passed-behind.ensures.grows c.passed-behind.ensures.at;
         lines = omega arith;
         ahead = λ h. subst (λ (s : State). IsAhead s) (sym c.passed-behind.ensures.state) (c.in-Go.ensures.keeps.2 (c.loop-pass.invariant.follows.ahead h));
         span = omega (arith, c.passed-behind.ensures.span, c.loop-pass.invariant.follows.span);
-      }) c.skipped-pass.ensures.follows;
+      }) c.onward-pass.ensures.follows;
     }
 
 pub returns-in-Done : goal.returns-in-Done
