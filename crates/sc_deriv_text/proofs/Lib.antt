@@ -1,0 +1,12 @@
+pub mod Exprs
+pub mod Numerals
+pub mod NumbersAgain
+pub mod NumbersOnly
+pub mod Loop
+pub mod Puts
+pub mod LineCounts
+pub mod Again
+pub mod Takes
+pub mod Exactly
+pub mod TextTokens
+pub mod ReadBack
