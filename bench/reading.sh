@@ -1,7 +1,8 @@
 #!/usr/bin/env bash
 # Times how fast the built program reads: 16 MiB of white space, of comments, of one long list, of lists that are
-# 998 deep, of long symbols, and of many short commands. It builds nothing: give the program's path, or build it
-# first by 'rt run' in crates/setcard. Where cvc5 is installed, the same inputs are given to it.
+# 998 deep, of long symbols, of many short commands and of echoes. It builds nothing: give the program's path, or
+# build it first by 'rt run' in crates/setcard. Where cvc5 is installed, the same inputs are given to it. Where
+# crates/bench_reading is built too (by 'rt run' there), splitting and lexing are also timed alone.
 cd "$(dirname "$0")/.." || exit 1
 . bench/common.sh
 size=16777000
@@ -23,6 +24,7 @@ fill '(set-info :notes (' 'a bb 17 ' '))' > "$work/list"
 fill '(set-info :notes (' "$deep" '))' > "$work/deep"
 fill '(set-info :notes (' "$symbol " '))' > "$work/symbols"
 fill '' '(set-info :status unknown)' '' > "$work/commands"
+fill '' '(echo "hello world") ' '' > "$work/echoes"
 
 show '16 MiB of white space' "$work/blanks" both
 show '16 MiB of comments' "$work/comments" both
@@ -30,3 +32,19 @@ show '16 MiB in one list of short tokens' "$work/list" both
 show '16 MiB of lists 998 deep' "$work/deep" both
 show '16 MiB of symbols of 4,000 bytes' "$work/symbols" both
 show '16 MiB of short commands' "$work/commands" both
+show '16 MiB of echoes' "$work/echoes" both
+
+reader=crates/bench_reading/out/bench_reading
+[ -x "$reader" ] || exit 0
+# NAME INPUT: the speed of splitting and of lexing alone, without the time in which the input is only read
+alone() {
+  local read split lex
+  read=$(best "$2" "$reader" read)
+  split=$(best "$2" "$reader" split)
+  lex=$(best "$2" "$reader" lex)
+  awk -v n="$1" -v read="$read" -v split="$split" -v lex="$lex" -v size="$(stat -c %s "$2")" \
+    'BEGIN { printf "%-44s split %7.1f MB/s   lex %7.1f MB/s\n", n, size / (split - read), size / (lex - read) }'
+}
+for input in blanks comments list deep symbols commands echoes; do
+  alone "  $input" "$work/$input"
+done

@@ -1,3 +1,4 @@
+pub mod Firsts
 pub mod Walks
 pub mod Found
 pub mod Settled

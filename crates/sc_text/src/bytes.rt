@@ -70,9 +70,14 @@ pub fn is_symbol_byte(byte: u8) -> bool
 }
 
 /// How many line feeds there are.
+#[inline(always)]
 pub(crate) fn line_feeds(bytes: &[u8]) -> usize
     ensures count { result ≡ line_feeds bytes.now }
     ensures within { result ≤ length bytes.now }
 {
-    bytes.iter().filter(|b| **b == b'\n').count()
+    match bytes {
+        [] => 0,
+        [byte] => usize::from(*byte == b'\n'),
+        _ => bytes.iter().filter(|b| **b == b'\n').count(),
+    }
 }

@@ -61,6 +61,19 @@ pub(crate) fn gap_at(bytes: &[u8]) -> Gap
     ensures gap { result ≡ gap false bytes.now }
     ensures within { result.len ≤ length bytes.now }
 {
+    match bytes.first() {
+        Some(first) if gap_step(false, *first).is_none() => Gap {
+            len: 0,
+            comment: false,
+        },
+        _ => long_gap_at(bytes),
+    }
+}
+
+fn long_gap_at(bytes: &[u8]) -> Gap
+    ensures gap { result ≡ gap false bytes.now }
+    ensures within { result.len ≤ length bytes.now }
+{
     let mut comment = false;
     for (i, byte) in bytes.iter().enumerate() {
         match gap_step(comment, *byte) {
@@ -89,6 +102,18 @@ fn behind_span(mode: Mode, bytes: &[u8], from: usize) -> usize
 /// The token that begins with the first byte.
 #[inline(always)]
 pub(crate) fn run_at(bytes: &[u8]) -> Run
+    ensures run { result ≡ run Mode.Start bytes.now }
+    ensures within { run_fits (length bytes.now) result }
+{
+    match bytes.first() {
+        Some(b'(') => Run::Takes(1, Kind::Left),
+        Some(b')') => Run::Takes(1, Kind::Right),
+        _ => long_run_at(bytes),
+    }
+}
+
+#[inline(always)]
+fn long_run_at(bytes: &[u8]) -> Run
     ensures run { result ≡ run Mode.Start bytes.now }
     ensures within { run_fits (length bytes.now) result }
 {
