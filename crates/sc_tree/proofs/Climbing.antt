@@ -70,7 +70,7 @@ cell_steps_by cells n zero branch own steps h = (h, inl refl)
 cell_steps_by cells n (suc p) branch own steps h =
     (h.steps_are ∙ rw (place-at cells (suc p) h.before h.is, h.is, h.parted) refl, inr (ap is_some h.is))
 
-lower_by : (cells : List Cell) (n parent branch : ℕ) (own : List Step) (steps : List Taken) → 0 < n → ComesFrom cells n parent branch own steps → parent < n
+pub lower_by : (cells : List Cell) (n parent branch : ℕ) (own : List Step) (steps : List Taken) → 0 < n → ComesFrom cells n parent branch own steps → parent < n
 lower_by cells n zero branch own steps less h = less
 lower_by cells n (suc p) branch own steps less h = h.lower
 

@@ -1,5 +1,5 @@
 -- What the leaves' marks tell.
-use Rattle.std.proofs.Common.{◌≡◌, ℕ, zero, suc, ◌+◌, Bool, true, false, not, ◌||◌, List, [], ◌∷◌, map, length, Some, None, refl, sym, ap, ◌∙◌, subst, arith, append-nil}
+use Rattle.std.proofs.Common.{◌≡◌, ℕ, zero, suc, ◌+◌, Bool, true, false, not, ◌||◌, List, [], ◌∷◌, map, Some, None, refl, sym, ap, ◌∙◌, subst, arith, append-nil}
 use Rattle.std.specs.Prelude.{is_some, slice_get}
 use Rattle.std.specs.List.{list_any}
 use Rattle.std.proofs.lemmas.Bool.{false≢true}
@@ -13,7 +13,6 @@ use Rattle.sc_deriv.specs.declared.derivation.Lemma.{Lemma}
 use Rattle.sc_deriv.specs.Acceptance.{Closed, hypotheses_of}
 use Rattle.sc_deriv.specs.Laws.{LemmasFollow}
 use Rattle.sc_tree.specs.declared.machine.Cause.{Cause}
-use Rattle.sc_tree.specs.declared.machine.Cause.TheVariants as causes
 use Rattle.sc_tree.specs.declared.machine.Mark.{Mark}
 use Rattle.sc_tree.specs.declared.machine.Mark.TheVariants as marks
 use Rattle.sc_tree.specs.declared.machine.Place.{Place}
@@ -22,7 +21,7 @@ use Rattle.sc_tree.specs.Machine.{Cell, State, Kept, state, state_of, is_live, h
 use Rattle.sc_tree.specs.Keeping.{place_of, is_spent}
 use Rattle.sc_tree.specs.Trying.{IsRight, AreTried}
 use Rattle.sc_tree.specs.Reading.{is_ended, IsAhead, IsReadable, AreClosed, tree_nodes}
-use Rattle.sc_tree.specs.Verdicts.{NoneLive, SomeSpent, Refutes, IsUnknown, IsOutOfBudget}
+use Rattle.sc_tree.specs.Verdicts.{NoneLive, SomeSpent, Refutes, IsUnknown}
 use Rattle.sc_tree.proofs.Cells.{item-within}
 use Rattle.sc_tree.proofs.Lists.{mark-live}
 use Rattle.sc_tree.proofs.Kept.{length-map}
@@ -31,7 +30,7 @@ use Rattle.sc_tree.proofs.Tried.{leaves_are_tried}
 use Rattle.sc_tree.proofs.ClosedTrees.{tree_closed}
 use Rattle.sc_tree.proofs.Spelt.{closed_is_tree, closed_is_named}
 
-spent-mark : (mark : Mark) → is_spent mark ≡ true → (cause : Cause) × (mark ≡ marks.Spent cause)
+pub spent-mark : (mark : Mark) → is_spent mark ≡ true → (cause : Cause) × (mark ≡ marks.Spent cause)
 spent-mark marks.Open e = absurd (false≢true e)
 spent-mark (marks.Held seat) e = absurd (false≢true e)
 spent-mark (marks.Closed closing) e = absurd (false≢true e)
@@ -98,7 +97,7 @@ get-back [] n p e = absurd cc
 get-back (x ∷ xs) zero p e = (x, refl, sym (same_Some (place_of x) p e))
 get-back (x ∷ xs) (suc n) p e = get-back xs n p e
 
-place-back : (cells : List Cell) (n : ℕ) (p : Place) → item_at (map place_of cells) n ≡ Some p → (c : Cell) × (item_at cells n ≡ Some c) × (p ≡ place_of c)
+pub place-back : (cells : List Cell) (n : ℕ) (p : Place) → item_at (map place_of cells) n ≡ Some p → (c : Cell) × (item_at cells n ≡ Some c) × (p ≡ place_of c)
 place-back cells zero p e = absurd cc
 place-back cells (suc n) p e = get-back cells n p e
 
@@ -141,21 +140,6 @@ unknown t problem about legal over none spent =
       spent = spent;
       tried = subst (λ p. AreTried p t.budget (state t).cells) about (leaves_are_tried t.problem t.budget t.journal legal);
     }
-
-budget-by : (problem : Parts) (budget : ℕ) (cells : List Cell) (n : ℕ) (c : Cell) (mark : Mark) (cause : Cause) → IsRight problem budget cells n c.path c.steps mark → mark ≡ marks.Spent cause → length c.steps ≡ budget
-budget-by problem budget cells n c marks.Open cause h e = absurd cc
-budget-by problem budget cells n c (marks.Held seat) cause h e = absurd cc
-budget-by problem budget cells n c (marks.Closed closing) cause h e = absurd cc
-budget-by problem budget cells n c (marks.Spent causes.Budget) cause h e = h.0
-budget-by problem budget cells n c (marks.Parted step left) cause h e = absurd cc
-
-pub out_of_budget : (t : Kept) → IsLegal t.problem t.budget t.journal → SomeSpent (state t).cells → IsOutOfBudget t
-out_of_budget t legal h =
-    let c = h.2.0 in
-    (h.0, c, h.1, h.2.1, h.2.2, budget-by t.problem t.budget (state t).cells h.0 c c.mark h.1 (leaves_are_tried t.problem t.budget t.journal legal h.0 c h.2.1).right h.2.2)
-
-pub budget_spent : (t : Kept) → IsOutOfBudget t → SomeSpent (state t).cells
-budget_spent t h = (h.0, h.2, (h.1, h.3, h.4))
 
 -- the derivation that a tree is whose leaves are all closed
 pub refutes : (t : Kept) (problem : Parts) (lemmas : List Lemma) (ns : List Node) → t.problem ≡ problem → IsLegal t.problem t.budget t.journal → AreClosed (state t).cells → IsProblem problem → LemmasFollow → ns ≡ tree_nodes t → lemmas ≡ [] → Refutes problem (record { lemmas = lemmas; nodes = ns })

@@ -8,6 +8,7 @@ pub mod Models
 pub mod Sound
 pub mod Tried
 pub mod Climbing
+pub mod Counting
 pub mod HandingOut
 pub mod Preorder
 pub mod ClosedTrees

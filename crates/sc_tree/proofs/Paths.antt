@@ -27,7 +27,7 @@ use Rattle.sc_tree.proofs.Cells.{item-set_back, item-append_back}
 module _ (problem : Parts) (budget : ℕ) where
   -- a leaf that was given up has a cause, and no clash holds on it
   abbrev pub IsSpentWell : Cell → Mark → Type 0
-  IsSpentWell c (marks.Spent cause) = IsCause budget c.steps cause × HasNoClash c.path
+  IsSpentWell c (marks.Spent cause) = IsCause problem budget c.path c.steps cause × HasNoClash c.path
   IsSpentWell c _ = ⊤
 
   -- the path is that of the steps, which are lean and within the budget

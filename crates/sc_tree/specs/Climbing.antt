@@ -1,9 +1,10 @@
 -- From a leaf's place to the root's, and back along its steps.
-use Rattle.std.specs.Prelude.{◌≡◌, ℕ, true, List, [], ◌∷◌, ◌++◌, map, reverse, Option, Some, None, is_some}
+use Rattle.std.specs.Prelude.{◌≡◌, ℕ, zero, suc, ◌+◌, true, List, [], ◌∷◌, ◌++◌, length, map, reverse, Option, Some, None, is_some}
 use Rattle.sc_base.specs.Numbered.{item_at}
 use Rattle.sc_terms.specs.declared.problem.Parts.{Parts}
 use Rattle.sc_facts.specs.declared.fact.Fact.{Fact}
 use Rattle.sc_facts.specs.Paths.{PathFacts, with_facts}
+use Rattle.sc_deriv.specs.declared.derivation.Step.{Step}
 use Rattle.sc_deriv.specs.declared.derivation.Taken.{Taken}
 use Rattle.sc_deriv.specs.Taking.{path_after}
 use Rattle.sc_tree.specs.declared.machine.Mark.{Mark}
@@ -32,6 +33,20 @@ AddsLast places n old parent new =
 abbrev pub steps_or : Option Cell → List Taken
 steps_or None = []
 steps_or (Some c) = c.steps
+
+-- how many steps a leaf took since the split of which it came, that of no parent or of this one
+abbrev pub own_count : ℕ → List Step → ℕ
+own_count zero chain = length chain
+own_count (suc parent) chain = length chain + 1
+
+-- how many steps lead to the leaf with this number, none where there is none
+abbrev pub step_count : List Cell → ℕ → ℕ
+step_count cells n = length (steps_or (item_at cells n))
+
+-- the places are those of cells, each of which came by a split
+pub record IsClimbed (places : List Place) (cells : List Cell) : Type 0 where
+  pub places_are : places ≡ map place_of cells
+  pub come : AllCome cells
 
 -- the places are those of cells, each of which came by a split; one of them has the number
 pub record GoesTo (places : List Place) (cells : List Cell) (n : ℕ) : Type 0 where

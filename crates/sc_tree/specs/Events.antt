@@ -9,12 +9,13 @@ use Rattle.sc_deriv.specs.declared.derivation.Closing.{Closing}
 use Rattle.sc_deriv.specs.Acceptance.{step_branches, clashes, closing_fault}
 use Rattle.sc_deriv.specs.declared.derivation.Taken.{Taken}
 use Rattle.sc_tree.specs.declared.machine.Cause.{Cause}
-use Rattle.sc_tree.specs.declared.machine.Cause.TheVariants.{Budget}
+use Rattle.sc_tree.specs.declared.machine.Cause.TheVariants.{Budget, Wide}
 use Rattle.sc_tree.specs.declared.machine.Event.{Event}
 use Rattle.sc_tree.specs.declared.machine.Event.TheVariants as events
 use Rattle.sc_deriv.specs.Taking.{path_after}
 use Rattle.sc_tree.specs.Chains.{taken, grow, firsts}
 use Rattle.sc_tree.specs.Lean.{IsWithin}
+use Rattle.sc_tree.specs.Wide.{IsWide}
 
 -- no fact stands on the path with both signs
 abbrev pub HasNoClash : List Fact → Type 0
@@ -24,9 +25,10 @@ HasNoClash path = (name : FactName) → clashes path name ≡ false
 abbrev pub Closes : List Fact → Closing → Type 0
 Closes path closing = closing_fault [] path closing ≡ None
 
--- the cause is there on the path of these steps
-abbrev pub IsCause : ℕ → List Taken → Cause → Type 0
-IsCause budget steps Budget = length steps ≡ budget
+-- the cause to give up a leaf with this path, to which these steps lead: as many steps as the budget allows, or a number past 128 bits
+abbrev pub IsCause : Parts → ℕ → List Fact → List Taken → Cause → Type 0
+IsCause problem budget path steps Budget = length steps ≡ budget
+IsCause problem budget path steps (Wide note) = IsWide problem path note
 
 -- the step applies with two branches
 abbrev pub IsSplit : Parts → List Fact → Step → Type 0
@@ -38,7 +40,7 @@ AllowsOn problem budget path steps events.Take = ⊥
 AllowsOn problem budget path steps (events.Grow chain) = (chain ≢ []) × (is_some (grow problem path chain) ≡ true) × IsWithin problem budget (steps ++ firsts chain)
 AllowsOn problem budget path steps (events.Split step) = IsSplit problem path step × IsWithin problem budget (steps ++ taken step 1 ∷ []) × IsWithin problem budget (steps ++ taken step 2 ∷ [])
 AllowsOn problem budget path steps (events.Close closing) = Closes path closing
-AllowsOn problem budget path steps (events.Spend cause) = IsCause budget steps cause × HasNoClash path
+AllowsOn problem budget path steps (events.Spend cause) = IsCause problem budget path steps cause × HasNoClash path
 AllowsOn problem budget path steps (events.Found values) = Shows problem values
 
 -- what may be done at the leaf to which these steps lead

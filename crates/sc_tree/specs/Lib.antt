@@ -2,6 +2,8 @@ pub mod Budgets
 pub mod Verdicts
 pub mod Chains
 pub mod Lean
+pub mod Bounds
+pub mod Wide
 pub mod Events
 pub mod Machine
 pub mod Answering

@@ -23,7 +23,7 @@ abbrev pub IsRight : Parts → ℕ → List Cell → ℕ → List Fact → List 
 IsRight problem budget cells n path steps marks.Open = ⊤
 IsRight problem budget cells n path steps (marks.Held seat) = ⊤
 IsRight problem budget cells n path steps (marks.Closed closing) = Closes path closing
-IsRight problem budget cells n path steps (marks.Spent cause) = IsCause budget steps cause × HasNoClash path
+IsRight problem budget cells n path steps (marks.Spent cause) = IsCause problem budget path steps cause × HasNoClash path
 IsRight problem budget cells n path steps (marks.Parted step left) =
     (pair : List Fact × List Fact) × (step_branches problem path step ≡ Some (pair.0 ∷ pair.1 ∷ [])) × (n < left) × IsBorn cells left n 1 (path ++ pair.0) × IsBorn cells (left + 1) n 2 (path ++ pair.1)
 

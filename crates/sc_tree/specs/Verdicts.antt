@@ -51,6 +51,10 @@ IsVerdictOf t (Some (Sat m)) = (state t).model ≡ Some m
 IsVerdictOf t (Some (Unsat d)) = ((state t).model ≡ None) × (has_answer (state t) ≡ true) × (SomeSpent (state t).cells → ⊥) × (d.lemmas ≡ []) × (d.nodes ≡ tree_nodes t)
 IsVerdictOf t (Some (Unknown u)) = ((state t).model ≡ None) × (has_answer (state t) ≡ true) × SomeSpent (state t).cells × (u ≡ t)
 
--- some leaf was given up on a path with as many steps as the budget allows
+-- the leaf with this number was given up on a path with as many steps as the budget allows
+abbrev pub IsOutAt : Kept → ℕ → Type 0
+IsOutAt t n = (c : Cell) × (cause : Cause) × (item_at (state t).cells n ≡ Some c) × (c.mark ≡ marks.Spent cause) × (length c.steps ≡ t.budget)
+
+-- some leaf was
 abbrev pub IsOutOfBudget : Kept → Type 0
-IsOutOfBudget t = (n : ℕ) × (c : Cell) × (cause : Cause) × (item_at (state t).cells n ≡ Some c) × (c.mark ≡ marks.Spent cause) × (length c.steps ≡ t.budget)
+IsOutOfBudget t = (n : ℕ) × IsOutAt t n

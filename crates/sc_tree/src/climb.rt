@@ -1,6 +1,6 @@
 //! The steps of a leaf, and the path to which they lead.
 
-ghost use Rattle.std.specs.Prelude.{◌≡◌, ℕ, [], ◌++◌, true, is_some, length, map, IfOk, OnOk, OnErr, reverse, List};
+ghost use Rattle.std.specs.Prelude.{◌≡◌, ℕ, [], ◌++◌, ◌<◌, ◌≤◌, ◌^◌, ◌↔◌, IsTrue, true, is_some, length, map, IfOk, OnOk, OnErr, reverse, List};
 ghost use Rattle.std.specs.Option.{option_copied, option_to_list};
 ghost use Rattle.sc_base.specs.Numbered.{item_at};
 ghost use Rattle.sc_rules.specs.Steps.{lists_of};
@@ -9,7 +9,7 @@ ghost use Rattle.sc_tree.specs.Chains.{taken, firsts};
 ghost use Rattle.sc_tree.specs.Machine.{Cell};
 ghost use Rattle.sc_tree.specs.Keeping.{place_of};
 ghost use Rattle.sc_tree.specs.Descent.{AllCome};
-ghost use Rattle.sc_tree.specs.Climbing.{turn_of, steps_or, AddsLast, GoesTo, IsPathAfter, FollowsBranch};
+ghost use Rattle.sc_tree.specs.Climbing.{turn_of, steps_or, own_count, step_count, AddsLast, GoesTo, IsClimbed, IsPathAfter, FollowsBranch};
 
 use crate::machine::{Mark, Place};
 use crate::places::copy_step;
@@ -102,6 +102,37 @@ pub(crate) fn steps_to(alloc: Global, places: &[Place], leaf: u64) -> Result<Ste
     }
     steps.reverse();
     Ok(Steps::from_vec(steps))
+}
+
+/// How many steps a place has: those of its own chain, and the one that led to it, if any.
+fn count_own(place: &Place) -> u64
+    requires { own_count place.now.parent place.now.chain < 2 ^ 64 }
+    ensures { result ≡ own_count place.now.parent place.now.chain }
+{
+    let own = place.chain.len() as u64;
+    if place.parent == 0 { own } else { own + 1 }
+}
+
+/// How many steps lead to a leaf from the root path, by the places of cells.
+fn count_steps(places: &[Place], leaf: u64) -> u64
+    requires { (cells : List Cell) × IsClimbed places.now cells × (step_count cells leaf < 2 ^ 64) }
+    ensures { (cells : List Cell) → IsClimbed places.now cells → result ≡ step_count cells leaf }
+{
+    let mut count = 0;
+    let mut number = leaf;
+    while let Some(place) = find_place(places, number) {
+        count += count_own(place);
+        number = place.parent;
+    }
+    count
+}
+
+/// Whether as many steps lead to a leaf as the budget allows, by the places of cells.
+pub(crate) fn is_full(places: &[Place], leaf: u64, budget: u64) -> bool
+    requires { (cells : List Cell) × IsClimbed places.now cells × (step_count cells leaf ≤ budget) }
+    ensures { (cells : List Cell) → IsClimbed places.now cells → IsTrue result ↔ (step_count cells leaf ≡ budget) }
+{
+    count_steps(places, leaf) == budget
 }
 
 /// The path goes on with the facts of one of the branches.

@@ -6,18 +6,46 @@ ghost use Rattle.sc_tree.specs.Keeping.{new_place};
 
 use sc_base::Sequence;
 use sc_deriv::{Closing, Step, Steps};
-use sc_facts::Path;
+use sc_facts::{Note, Path};
 use sc_terms::Interp;
 use std::alloc::Global;
+use std::marker::Model;
+use std::snapshot::Snapshot;
 
 /// Steps of one branch each, in order.
 pub type Chain = Sequence<Step>;
 
 /// Why a leaf is given up.
-#[derive(Clone, Copy, Debug, PartialEq, Eq, Drop)]
+#[derive(Drop)]
 pub enum Cause {
     /// Its path has as many steps as the budget allows.
     Budget,
+    /// What the note names on its path is a number past 128 bits.
+    Wide(Note),
+}
+
+/// A cause as contracts see it. It takes no memory: what the program reads of the cause stands in the journal.
+#[derive(Drop)]
+pub struct SeenCause {
+    cause: Snapshot<Cause>,
+}
+
+impl Model for SeenCause {
+    ghost use Rattle.sc_tree.specs.declared.machine.Cause.{Cause};
+
+    ghost Value = { Cause };
+
+    ghost view = { λ s. s.cause.value };
+}
+
+impl SeenCause {
+    pub(crate) fn of(cause: &Cause) -> SeenCause
+        ensures { result ≡ cause.now }
+    {
+        SeenCause {
+            cause: Snapshot::of(cause),
+        }
+    }
 }
 
 /// What a seat asks of the tree.
@@ -59,8 +87,8 @@ pub enum Mark {
     Held(u32),
     /// This closes it.
     Closed(Closing),
-    /// It was given up.
-    Spent(Cause),
+    /// It was given up for this cause.
+    Spent(SeenCause),
     /// This step has split it into the leaf with this number and the leaf with the next.
     Parted(Step, u64),
 }

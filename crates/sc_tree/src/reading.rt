@@ -93,7 +93,7 @@ pub(crate) fn nodes_of(alloc: Global, places: &[Place]) -> Result<Nodes, Memory>
 }
 
 /// Whether the place was given up.
-fn is_spent(place: &Place) -> bool
+pub(crate) fn is_spent(place: &Place) -> bool
     ensures { result ≡ spent_mark place.now.mark }
 {
     matches!(&place.mark, Mark::Spent(_))

@@ -6,15 +6,15 @@ ghost use Rattle.sc_tree.specs.Machine.{kept, entry, with_entry, has_answer, sta
 ghost use Rattle.sc_tree.specs.Answering.{Adds, Answers, takes_no_room};
 ghost use Rattle.sc_tree.specs.Keeping.{is_held, is_open, found_in, GivesUp, GivesBack, IsFound};
 ghost use Rattle.sc_tree.specs.Reading.{AreClosed, tree_nodes};
-ghost use Rattle.sc_tree.specs.Verdicts.{IsJust, IsOutOfBudget, IsVerdictOf, Refutes, SomeSpent};
+ghost use Rattle.sc_tree.specs.Verdicts.{IsJust, IsOutAt, IsOutOfBudget, IsVerdictOf, Refutes, SomeSpent};
 ghost use Rattle.sc_tree.specs.declared.machine.Entry.{Entry as JournalEntry};
 
-use crate::climb::lead_to;
+use crate::climb::{find_place, is_full, lead_to};
 use crate::laws::models_show;
-use crate::machine::{Cause, Chain, Entry, Event, Mark, Place, Reply};
+use crate::machine::{Cause, Chain, Entry, Event, Mark, Place, Reply, SeenCause};
 use crate::opened::{first_open, none_is_open, open_two, take_open};
 use crate::places::{add_steps, copy_steps, part_place, set_mark};
-use crate::reading::{nodes_of, some_is_spent};
+use crate::reading::{is_spent, nodes_of, some_is_spent};
 use crate::seats::Seats;
 use crate::verdict::Verdict;
 use sc_deriv::{Closing, Derivation, Lemmas, Step, lemmas_follow};
@@ -152,15 +152,16 @@ impl Tree {
         Ok(())
     }
 
-    /// The seat's leaf is spent, and the seat gives it up.
+    /// The seat's leaf is spent, and the seat gives it up. The cause moves into the journal.
     #[tactic(auto, using(crate::proofs::Kept::gives_spent))]
     fn spend(&mut self, seat: u32, leaf: u64, cause: Cause)
         requires at { IsAt self.old.problem self.old.budget (state self.old).cells seat leaf (Event.Spend cause) }
         requires going { has_answer (state self.old) ≡ false }
         ensures { self.new ≡ with_entry self.old (entry seat leaf (Event.Spend cause) false) }
     {
+        let mark = Mark::Spent(SeenCause::of(&cause));
         let event = Event::Spend(cause);
-        self.give_up(Entry::new(seat, leaf, event, false), Mark::Spent(cause));
+        self.give_up(Entry::new(seat, leaf, event, false), mark);
     }
 
     /// There is a model, and the seat gives back its leaf.
@@ -322,7 +323,7 @@ impl Tree {
 
     /// An event of a seat, with what it is answered: `Leaf` where it takes a leaf, `Idle` where none is open and some is held, `Done` where what it asked is done, and `Over` where the tree has its answer, that is a model, or no leaf that is open or held. After `Idle` the tree is as it was. After any other answer its journal has one more entry. Which leaf is taken is free.
     ///
-    /// The problem must be the tree's. For `Take` the seat must hold no leaf; for every other event it must hold one, which allows the event: steps that are taken apply there, one after another, keep its path lean, and within the budget; a closing holds; a leaf that is given up has as many steps as the budget allows, and no clash; values make the roots true.
+    /// The problem must be the tree's. For `Take` the seat must hold no leaf; for every other event it must hold one, which allows the event: steps that are taken apply there, one after another, keep its path lean, and within the budget; a closing holds; a leaf that is given up has as many steps as the budget allows, or a number past 128 bits that the note names, and no clash; values make the roots true.
     ///
     /// The only error is want of memory, and then the event has not happened. `Spend` and `Found` need no memory.
     pub fn step(&mut self, problem: &Problem, seat: u32, event: Event) -> Result<Reply, Memory>
@@ -347,12 +348,29 @@ impl Tree {
         some_is_spent(self.places.as_slice())
     }
 
-    /// Whether some leaf was given up on a path that has as many steps as the budget allows.
+    /// Whether some leaf was given up on a path that has as many steps as the budget allows, whatever its cause.
     pub fn out_of_budget(&self) -> bool
         ensures { IsTrue result ↔ IsOutOfBudget self.now }
     {
-        let _legal = self.len();
-        self.has_spent()
+        for before in 0..self.places.len() as u64 {
+            if self.is_out_at(before + 1) {
+                return true;
+            }
+        }
+        false
+    }
+
+    /// Whether the leaf with this number was given up on such a path.
+    fn is_out_at(&self, number: u64) -> bool
+        ensures { IsTrue result ↔ IsOutAt self.now number }
+    {
+        let Some(place) = find_place(self.places.as_slice(), number) else {
+            return false;
+        };
+        if !is_spent(place) {
+            return false;
+        }
+        is_full(self.places.as_slice(), number, self.budget)
     }
 
     /// The values that were found; they stand at this place of the journal.
