@@ -26,6 +26,7 @@ are_spelt = record {
   declare_fun = λ line start at n s name l arguments h g k. with_sorts (are_sorts arguments) (is_sort s) (symbol n) name (λ m. DeclareFun m _ s) h g k;
   assert = λ line start at t. refl;
   check_sat = λ line start at. refl;
+  get_proof = λ line start at. refl;
   echo = λ line start at l text h. ap (λ o. done (option_map (λ t. Echo t) o)) h;
   exit = λ line start at. refl;
 }

@@ -5,7 +5,7 @@ use Rattle.std.specs.Str.{bytes_eq}
 use Rattle.std.proofs.lemmas.Slice.Eq.{bytes_eq-Decides}
 use Rattle.sc_text.specs.Names.{is_among, is_command}
 use Rattle.sc_sexpr.specs.Shapes.{Shapes, Empty, More}
-use Rattle.sc_commands.specs.Commands.{CommandShape, SetInfo, DeclareSort, Assert, CheckSat, Exit}
+use Rattle.sc_commands.specs.Commands.{CommandShape, SetInfo, DeclareSort, Assert, CheckSat, GetProof, Exit}
 use Rattle.sc_commands.specs.Forms
 use Rattle.sc_commands.specs.Laws.{name_of, done}
 
@@ -26,7 +26,7 @@ abbrev table : List Entry
 table =
     record { name = codes "set-logic"; form = Forms.set_logic } ∷ record { name = codes "set-info"; form = Forms.set_info } ∷ record { name = codes "declare-sort"; form = Forms.declare_sort }
     ∷ record { name = codes "declare-const"; form = Forms.declare_const } ∷ record { name = codes "declare-fun"; form = Forms.declare_fun } ∷ record { name = codes "assert"; form = Forms.assert }
-    ∷ record { name = codes "check-sat"; form = Forms.check_sat } ∷ record { name = codes "echo"; form = Forms.echo } ∷ record { name = codes "exit"; form = Forms.exit } ∷ []
+    ∷ record { name = codes "check-sat"; form = Forms.check_sat } ∷ record { name = codes "get-proof"; form = Forms.get_proof } ∷ record { name = codes "echo"; form = Forms.echo } ∷ record { name = codes "exit"; form = Forms.exit } ∷ []
 
 some_if : (b : Bool) (f : Form) (o : Option Form) (r : Bool) → is_some o ≡ r → is_some (if b then Some f else o) ≡ (b || r)
 some_if true f o r h = refl
@@ -52,7 +52,7 @@ among_known [] word known h = absurd cc
 among_known (w ∷ ws) word known h = either word w (is_among word ws) (bytes_eq w word) refl known.0 (among_known ws word known.1) h
 
 pub done_are_commands : (word : List ℕ) → is_among word done ≡ true → is_command word ≡ true
-done_are_commands word = among_known done word (refl, (refl, (refl, (refl, (refl, (refl, (refl, (refl, (refl, tt)))))))))
+done_are_commands word = among_known done word (refl, (refl, (refl, (refl, (refl, (refl, (refl, (refl, (refl, (refl, tt))))))))))
 
 -- every command of the form has this name
 abbrev pub Gives : Form → List ℕ → Type 0
@@ -116,6 +116,10 @@ check_sat_is : Gives Forms.check_sat (codes "check-sat")
 check_sat_is Empty c e = only CheckSat _ refl c e
 check_sat_is (More a rest) c e = absurd cc
 
+get_proof_is : Gives Forms.get_proof (codes "get-proof")
+get_proof_is Empty c e = only GetProof _ refl c e
+get_proof_is (More a rest) c e = absurd cc
+
 echo_is : Gives Forms.echo (codes "echo")
 echo_is Empty c e = absurd cc
 echo_is (More a Empty) c e = mapped _ _ (λ n. refl) (Forms.literal a) c e
@@ -144,4 +148,4 @@ names_found [] word h f e = absurd cc
 names_found (x ∷ es) word h f e = first_or x.name word x.form (look_up es word) (bytes_eq x.name word) refl h.0 (names_found es word h.1) f e
 
 pub forms_have_names : (word : List ℕ) → NamedBy (Forms.form_of word) word
-forms_have_names word = names_found table word (set_logic_is, (set_info_is, (declare_sort_is, (declare_const_is, (declare_fun_is, (assert_is, (check_sat_is, (echo_is, (exit_is, tt)))))))))
+forms_have_names word = names_found table word (set_logic_is, (set_info_is, (declare_sort_is, (declare_const_is, (declare_fun_is, (assert_is, (check_sat_is, (get_proof_is, (echo_is, (exit_is, tt))))))))))

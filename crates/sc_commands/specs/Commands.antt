@@ -16,6 +16,7 @@ pub data CommandShape : Type 0 where
   DeclareFun : List ℕ → Shape → Shape → CommandShape
   Assert : Shape → CommandShape
   CheckSat : CommandShape
+  GetProof : CommandShape
   Echo : List ℕ → CommandShape
   Exit : CommandShape
 
@@ -28,5 +29,6 @@ seen (command.DeclareConst name sort) = DeclareConst name.now (shape sort)
 seen (command.DeclareFun name arguments range) = DeclareFun name.now (shape (tree.List arguments)) (shape range)
 seen (command.Assert term) = Assert (shape term)
 seen command.CheckSat = CheckSat
+seen command.GetProof = GetProof
 seen (command.Echo literal) = Echo literal.now
 seen command.Exit = Exit

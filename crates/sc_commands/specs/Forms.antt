@@ -6,7 +6,7 @@ use Rattle.sc_text.specs.declared.code.Code.{Code}
 use Rattle.sc_text.specs.declared.code.Code.TheVariants as code
 use Rattle.sc_text.specs.Names.{is_command, is_left_out_command, is_reserved}
 use Rattle.sc_sexpr.specs.Shapes.{Shape, Single, Listed, Shapes, Empty, More}
-use Rattle.sc_commands.specs.Commands.{CommandShape, SetLogic, SetInfo, DeclareSort, DeclareConst, DeclareFun, Assert, CheckSat, Echo, Exit}
+use Rattle.sc_commands.specs.Commands.{CommandShape, SetLogic, SetInfo, DeclareSort, DeclareConst, DeclareFun, Assert, CheckSat, GetProof, Echo, Exit}
 
 -- what stands between the first byte and the last one
 abbrev pub between : List ℕ → List ℕ
@@ -72,6 +72,10 @@ abbrev pub check_sat : Shapes → Option CommandShape
 check_sat Empty = Some CheckSat
 check_sat parts = None
 
+abbrev pub get_proof : Shapes → Option CommandShape
+get_proof Empty = Some GetProof
+get_proof parts = None
+
 abbrev pub echo : Shapes → Option CommandShape
 echo (More text Empty) = option_map (λ l. Echo l) (literal text)
 echo parts = None
@@ -79,6 +83,16 @@ echo parts = None
 abbrev pub exit : Shapes → Option CommandShape
 exit Empty = Some Exit
 exit parts = None
+
+-- the form of the command with this name, where it is done and declares nothing
+abbrev pub action_form_of : List ℕ → Option (Shapes → Option CommandShape)
+action_form_of word =
+    if bytes_eq (codes "assert") word then Some assert
+    else if bytes_eq (codes "check-sat") word then Some check_sat
+    else if bytes_eq (codes "get-proof") word then Some get_proof
+    else if bytes_eq (codes "echo") word then Some echo
+    else if bytes_eq (codes "exit") word then Some exit
+    else None
 
 -- the form of the command with this name, where it is done
 abbrev pub form_of : List ℕ → Option (Shapes → Option CommandShape)
@@ -88,11 +102,7 @@ form_of word =
     else if bytes_eq (codes "declare-sort") word then Some declare_sort
     else if bytes_eq (codes "declare-const") word then Some declare_const
     else if bytes_eq (codes "declare-fun") word then Some declare_fun
-    else if bytes_eq (codes "assert") word then Some assert
-    else if bytes_eq (codes "check-sat") word then Some check_sat
-    else if bytes_eq (codes "echo") word then Some echo
-    else if bytes_eq (codes "exit") word then Some exit
-    else None
+    else action_form_of word
 
 -- A word that is a command's name, but has no form here, lies outside the profile.
 abbrev pub by_form : Option (Shapes → Option CommandShape) → List ℕ → Shapes → Result CommandShape Code

@@ -5,7 +5,7 @@ use Rattle.sc_text.specs.declared.code.Code.{Code}
 use Rattle.sc_text.specs.declared.code.Code.TheVariants as code
 use Rattle.sc_text.specs.Names.{is_among, is_command, is_left_out_command, is_reserved}
 use Rattle.sc_sexpr.specs.Shapes.{Shape, Single, Listed, Shapes, Empty, More}
-use Rattle.sc_commands.specs.Commands.{CommandShape, SetLogic, SetInfo, DeclareSort, DeclareConst, DeclareFun, Assert, CheckSat, Echo, Exit}
+use Rattle.sc_commands.specs.Commands.{CommandShape, SetLogic, SetInfo, DeclareSort, DeclareConst, DeclareFun, Assert, CheckSat, GetProof, Echo, Exit}
 use Rattle.sc_commands.specs.Forms.{symbol, numeral, literal, is_keyword, is_sort, are_sorts, command_of}
 
 -- the name of a command
@@ -17,12 +17,13 @@ name_of (DeclareConst name sort) = codes "declare-const"
 name_of (DeclareFun name arguments range) = codes "declare-fun"
 name_of (Assert term) = codes "assert"
 name_of CheckSat = codes "check-sat"
+name_of GetProof = codes "get-proof"
 name_of (Echo text) = codes "echo"
 name_of Exit = codes "exit"
 
 -- the commands that are done
 abbrev pub done : List (List ℕ)
-done = codes "set-logic" ∷ codes "set-info" ∷ codes "declare-sort" ∷ codes "declare-const" ∷ codes "declare-fun" ∷ codes "assert" ∷ codes "check-sat" ∷ codes "echo" ∷ codes "exit" ∷ []
+done = codes "set-logic" ∷ codes "set-info" ∷ codes "declare-sort" ∷ codes "declare-const" ∷ codes "declare-fun" ∷ codes "assert" ∷ codes "check-sat" ∷ codes "get-proof" ∷ codes "echo" ∷ codes "exit" ∷ []
 
 -- a command's name of SMT-LIB 2.6
 abbrev pub is_name : List ℕ → Bool
@@ -74,5 +75,6 @@ pub record AreSpelt : Type 0 where
   pub declare_fun : (line start at : ℕ) (n s : Shape) (name : List ℕ) (l : ℕ) (arguments : Shapes) → symbol n ≡ Some name → are_sorts arguments ≡ true → is_sort s ≡ true → command_of (item line start at (codes "declare-fun") (More n (More (Listed l arguments) (More s Empty)))) ≡ Ok (DeclareFun name (Listed l arguments) s)
   pub assert : (line start at : ℕ) (t : Shape) → command_of (item line start at (codes "assert") (More t Empty)) ≡ Ok (Assert t)
   pub check_sat : (line start at : ℕ) → command_of (item line start at (codes "check-sat") Empty) ≡ Ok CheckSat
+  pub get_proof : (line start at : ℕ) → command_of (item line start at (codes "get-proof") Empty) ≡ Ok GetProof
   pub echo : (line start at : ℕ) (l : Shape) (text : List ℕ) → literal l ≡ Some text → command_of (item line start at (codes "echo") (More l Empty)) ≡ Ok (Echo text)
   pub exit : (line start at : ℕ) → command_of (item line start at (codes "exit") Empty) ≡ Ok Exit

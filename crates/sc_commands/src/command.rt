@@ -42,6 +42,8 @@ pub enum Command<'a> {
     },
     /// `(check-sat)`.
     CheckSat,
+    /// `(get-proof)`.
+    GetProof,
     /// `(echo literal)`.
     Echo {
         /// The string literal, as written.

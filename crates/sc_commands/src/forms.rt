@@ -178,6 +178,12 @@ pub(crate) fn check_sat(mut parts: Parts<'_>) -> Option<Command<'_>>
     parts.next().is_none().then_some(Command::CheckSat)
 }
 
+pub(crate) fn get_proof(mut parts: Parts<'_>) -> Option<Command<'_>>
+    ensures { option_map seen result ≡ forms.get_proof (shapes_of (map shape (into_iter_items parts.entry))) }
+{
+    parts.next().is_none().then_some(Command::GetProof)
+}
+
 pub(crate) fn echo(mut parts: Parts<'_>) -> Option<Command<'_>>
     ensures { option_map seen result ≡ forms.echo (shapes_of (map shape (into_iter_items parts.entry))) }
 {

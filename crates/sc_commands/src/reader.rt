@@ -6,7 +6,7 @@ ghost use Rattle.std.specs.Str.{bytes_eq};
 ghost use Rattle.std.specs.Vec.Iter.{into_iter_items};
 ghost use Rattle.sc_sexpr.specs.Shapes.{shape, shapes_of};
 ghost use Rattle.sc_commands.specs.Commands.{seen};
-ghost use Rattle.sc_commands.specs.Forms.{command_of, by_form, form_of};
+ghost use Rattle.sc_commands.specs.Forms.{command_of, by_form, form_of, action_form_of};
 
 use crate::command::Command;
 use crate::forms::{self, Parts};
@@ -17,6 +17,28 @@ fn is_word(word: &[u8], name: &str) -> bool
     ensures { result ≡ bytes_eq name.now word.now }
 {
     name.as_bytes() == word
+}
+
+/// The command of this name that declares nothing, with the parts behind its head.
+fn action_named<'a>(word: &[u8], parts: Parts<'a>) -> Result<Command<'a>, Code>
+    ensures { result_map_both seen (λ e. e) result ≡ by_form (action_form_of word.now) word.now (shapes_of (map shape (into_iter_items parts.entry))) }
+{
+    let command = if is_word(word, "assert") {
+        forms::assert(parts)
+    } else if is_word(word, "check-sat") {
+        forms::check_sat(parts)
+    } else if is_word(word, "get-proof") {
+        forms::get_proof(parts)
+    } else if is_word(word, "echo") {
+        forms::echo(parts)
+    } else if is_word(word, "exit") {
+        forms::exit(parts)
+    } else if is_command(word) || is_left_out_command(word) {
+        return Err(Code::E8);
+    } else {
+        return Err(Code::E4);
+    };
+    command.ok_or(Code::E5)
 }
 
 /// The command of this name with the parts behind its head.
@@ -33,18 +55,8 @@ fn command_named<'a>(word: &[u8], parts: Parts<'a>) -> Result<Command<'a>, Code>
         forms::declare_const(parts)
     } else if is_word(word, "declare-fun") {
         forms::declare_fun(parts)
-    } else if is_word(word, "assert") {
-        forms::assert(parts)
-    } else if is_word(word, "check-sat") {
-        forms::check_sat(parts)
-    } else if is_word(word, "echo") {
-        forms::echo(parts)
-    } else if is_word(word, "exit") {
-        forms::exit(parts)
-    } else if is_command(word) || is_left_out_command(word) {
-        return Err(Code::E8);
     } else {
-        return Err(Code::E4);
+        return action_named(word, parts);
     };
     command.ok_or(Code::E5)
 }

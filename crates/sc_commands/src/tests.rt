@@ -23,6 +23,7 @@ fn tell(out: &mut String, read: Result<Command<'_>, Code>) -> Result<(), Fail> {
         Ok(Command::DeclareFun { name, .. }) => ("fun ", name),
         Ok(Command::Assert { .. }) => ("assert", b""),
         Ok(Command::CheckSat) => ("check", b""),
+        Ok(Command::GetProof) => ("proof", b""),
         Ok(Command::Echo { literal }) => ("echo ", literal),
         Ok(Command::Exit) => ("exit", b""),
         Err(Code::E4) => ("E4", b""),
@@ -52,14 +53,14 @@ fn told(alloc: Global, text: &[u8]) -> Result<String, Fail> {
 
 #[test]
 fn commands(rt: HostRuntime) -> Result<(), Fail> {
-    let cases: [(&[u8], &str); 31] = [
+    let cases: [(&[u8], &str); 33] = [
         (b"exit ", "E5"),
         (b"()", "E5"),
         (b"((exit))", "E4"),
         (b"(|exit|)", "E4"),
         (b"(\"exit\")", "E4"),
         (b"(let)", "E4"),
-        (b"(get-proof 1)", "E8"),
+        (b"(get-assertions 1)", "E8"),
         (b"(define-sort)", "E8"),
         (b"(set-logic QF_UF)", "logic"),
         (b"(set-logic QF_UF LIA)", "E5"),
@@ -80,6 +81,8 @@ fn commands(rt: HostRuntime) -> Result<(), Fail> {
         (b"(assert)", "E5"),
         (b"(check-sat)", "check"),
         (b"(check-sat ())", "E5"),
+        (b"(get-proof)", "proof"),
+        (b"(get-proof 1)", "E5"),
         (b"(echo \"a\"\"b\")", "echo \"a\"\"b\""),
         (b"(echo a)", "E5"),
         (b"(exit)", "exit"),
