@@ -1,5 +1,5 @@
 -- What the steps of a call come to together.
-use Rattle.std.proofs.Common.{◌≡◌, if◌then◌else◌, ℕ, suc, ◌+◌, ◌<◌, nat_eq, nat_le, arith, true, false, List, [], ◌∷◌, ◌++◌, length, map, Option, Some, None, Result, Ok, Err, refl, sym, ap, ◌∙◌, subst, rules}
+use Rattle.std.proofs.Common.{◌≡◌, if◌then◌else◌, ℕ, suc, ◌+◌, ◌<◌, nat_eq, nat_le, arith, Bool, true, false, List, [], ◌∷◌, ◌++◌, length, map, Option, Some, None, Result, Ok, Err, refl, sym, ap, ◌∙◌, subst, rules}
 use Rattle.std.specs.Prelude.{IfOk, codes}
 use Rattle.std.specs.Str.{bytes_eq}
 use Rattle.sc_text.specs.declared.code.Code.{Code}
@@ -8,7 +8,7 @@ use Rattle.sc_sexpr.specs.declared.tree.Tree.{Tree, List as Nested, the_lemmas}
 use Rattle.sc_sexpr.specs.declared.tree.Items.{Items}
 use Rattle.sc_sexpr.specs.Shapes.{Shape, Listed, shape, shapes_of}
 use Rattle.sc_sexpr.specs.Trees.{marks_of, Tokens, place_of}
-use Rattle.sc_commands.specs.Commands.{CommandShape, DeclareSort}
+use Rattle.sc_commands.specs.Commands.{CommandShape}
 use Rattle.sc_commands.specs.Forms.{command_of}
 use Rattle.sc_print.specs.Spelling.{spelt_error}
 use Rattle.sc_terms.specs.declared.memory.Memory.{Memory}
@@ -27,9 +27,9 @@ use Rattle.sc_tree.specs.Verdicts.{IsJust}
 use Rattle.sc_session.specs.declared.response.Response.{Response}
 use Rattle.sc_session.specs.declared.response.Response.TheVariants as response
 use Rattle.sc_session.specs.Scripts.{Item, IsTold}
-use Rattle.sc_session.specs.States.{State, state, with_bank, with_names}
-use Rattle.sc_session.specs.Effects.{Effect, Checks, refuses, declares, is_taken, if_free, declare_sort, declare, declare_of, is_empty_list, assert_of, check_sat, most_checks, effect, effect_of, turn, verdict_line}
-use Rattle.sc_session.specs.Doing.{IsTold as IsAnswer, Does}
+use Rattle.sc_session.specs.States.{State, state, with_bank, with_names, moved_on}
+use Rattle.sc_session.specs.Effects.{Effect, Answers, Checks, refuses, declares, is_taken, if_free, declare_sort, declare, declare_of, is_empty_list, assert_of, check_sat, most_checks, declares_sort, effect_of, turn, verdict_line}
+use Rattle.sc_session.specs.Doing.{IsTold as IsAnswer, Does, said_by}
 use Rattle.sc_session.proofs.Trees.{one_shape}
 
 -- a declaration that was tried, and its response
@@ -37,10 +37,10 @@ pub declares_does : (old : State) (line b : ℕ) (fault : Option Code) (made nam
 declares_does old line b (Some code) made names number tried (Err e) d told = refl
 declares_does old line b None made names number tried (Err e) d told = refl
 declares_does old line b (Some code) made names number (Ok n) (Ok r) d told = absurd (let e : Some code ≡ None = d.0 in cc)
-declares_does old line b None made names number (Ok n) (Ok r) d told = (told, ap (with_names old) d.2)
+declares_does old line b None made names number (Ok n) (Ok r) d told = (ap (λ q. said_by q (with_names old names)) told, ap (with_names old) d.2)
 declares_does old line b (Some code) made names number (Err (errors.Fault c)) (Ok r) d told =
     let same : code ≡ c = cc in
-    (subst (λ k. r ≡ response.Error (spelt_error line k)) (sym same) told, ap (with_names old) d.1)
+    (ap (λ q. said_by q (with_names old names)) (subst (λ k. r ≡ response.Error (spelt_error line k)) (sym same) told), ap (with_names old) d.1)
 declares_does old line b None made names number (Err (errors.Fault c)) (Ok r) d told = absurd (let e : None ≡ Some c = d.0 in cc)
 declares_does old line b fault made names number (Err errors.Memory) (Ok r) d told = absurd told
 
@@ -50,7 +50,7 @@ pub if_free_does : (s v : State) (name : List ℕ) (line b : ℕ) (free : State 
 if_free_does s v name line b free r new e taken h =
     subst (λ c. Does s (if c then refuses line code.E9 s else free s) b r new) (sym (subst (λ x. is_taken x.names name ≡ false) e taken)) h
 
-pub sort_declared : (s v : State) (name arity : List ℕ) (line b : ℕ) (names : Names) (tried : Result ℕ StackError) (r : Result Response Memory) → v ≡ s → is_taken v.names name ≡ false → bytes_eq (codes "0") arity ≡ true → DeclaresSort v.names name tried names → IfOk r (IsAnswer tried line) → Does s (effect s (DeclareSort name arity) line) b r (with_names v names)
+pub sort_declared : (s v : State) (name arity : List ℕ) (line b : ℕ) (names : Names) (tried : Result ℕ StackError) (r : Result Response Memory) → v ≡ s → is_taken v.names name ≡ false → bytes_eq (codes "0") arity ≡ true → DeclaresSort v.names name tried names → IfOk r (IsAnswer tried line) → Does s (declares_sort s name arity line) b r (with_names v names)
 sort_declared s v name arity line b names tried r e taken zero d told =
     if_free_does s v name line b (λ x. if bytes_eq (codes "0") arity then declare_sort name x line else refuses line code.E8 x) r (with_names v names) e taken
     (subst (λ c. Does s (if c then declare_sort name s line else refuses line code.E8 s) b r (with_names v names)) (sym zero)
@@ -70,15 +70,16 @@ is_asserted s v term line b n bank r new e is h =
 below : (n : ℕ) → n < most_checks → nat_le most_checks n ≡ false
 below n few = grind (arith, few)
 
-pub is_checked : (s v : State) (line b : ℕ) (d : Verdict) (r : Response) (before vs : List Verdict) (p : Parts) (ns : List ℕ) → v ≡ s → before ≡ v.verdicts → length before < most_checks → ns ≡ assertions_in_force v.names → p ≡ stock v.bank ns → IsJust p b d → r ≡ response.Text (verdict_line d) → vs ≡ v.verdicts ++ d ∷ [] → Does s (check_sat s line) b (Ok r) (state v.bank v.names vs)
-is_checked s v line b d r before vs p ns e all few in_force problem just is more =
-    subst (λ x. Does x (check_sat x line) b (Ok r) (state v.bank v.names vs)) e
-    (subst (λ c. Does v (if c then refuses line (code.E16 most_checks) v else Checks (stock v.bank (assertions_in_force v.names))) b (Ok r) (state v.bank v.names vs)) (sym (subst (λ l. nat_le most_checks (length l) ≡ false) all (below (length before) few)))
-    (d, subst (λ q. IsJust q b d) (problem ∙ ap (stock v.bank) in_force) just, is, ap (state v.bank v.names) more))
+pub is_checked : (s v : State) (line b : ℕ) (d : Verdict) (r : Response) (vs : List Verdict) (p : Parts) (ns : List ℕ) → v ≡ s → v.checks < most_checks → ns ≡ assertions_in_force v.names → p ≡ stock v.bank ns → IsJust p b d → r ≡ response.Text (verdict_line d) → vs ≡ v.verdicts ++ d ∷ [] → Does s (check_sat s line) b (Ok r) (state v.bank v.names vs (v.checks + 1) true)
+is_checked s v line b d r vs p ns e few in_force problem just is more =
+    let new : State = state v.bank v.names vs (v.checks + 1) true in
+    subst (λ x. Does x (check_sat x line) b (Ok r) new) e
+    (subst (λ c. Does v (if c then refuses line (code.E16 most_checks) v else Checks (stock v.bank (assertions_in_force v.names))) b (Ok r) new) (sym (below v.checks few))
+    (d, subst (λ q. IsJust q b d) (problem ∙ ap (stock v.bank) in_force) just, ap (λ q. said_by q new) is, ap (λ xs. state v.bank v.names xs (v.checks + 1) true) more))
 
 -- a refusal
 pub refuses_does : (s : State) (line b : ℕ) (c : Code) (r : Result Response Memory) (new : State) → IfOk r (λ x. x ≡ response.Error (spelt_error line c)) → new ≡ s → Does s (refuses line c s) b r new
-refuses_does s line b c (Ok x) new h e = (h, e)
+refuses_does s line b c (Ok x) new h e = (ap (λ q. said_by q new) h, e)
 refuses_does s line b c (Err m) new h e = ap (λ (x : State). x.verdicts) e
 
 -- the list of arguments is empty
@@ -107,3 +108,15 @@ item_does s text line b t c r new tokens is h i told =
     let same : t ≡ i.shape = one_shape (place_of text line) t i.shape tokens told.tokens in
     subst (λ l. Does s (effect_of (command_of i.shape) s l) b r new) (sym told.line)
     (subst (λ o. Does s (effect_of o s line) b r new) (is ∙ ap command_of same) h)
+
+-- ---- a declaration or an assertion comes
+-- whether a check-sat was current doesn't matter any more
+again : (bank : List Node) (names : Names) (vs : List Verdict) (checks : ℕ) (x y : Bool) (e : Effect) (b : ℕ) (r : Result Response Memory) (new : State) → Does (state bank names vs checks x) e b r new → Does (state bank names vs checks y) e b r new
+again bank names vs checks x y (Answers q t) b (Ok given) new h = h
+again bank names vs checks x y (Checks problem) b (Ok given) new h = h
+again bank names vs checks x y (Answers q t) b (Err m) new h = h
+again bank names vs checks x y (Checks problem) b (Err m) new h = h
+
+pub moved_does : (s : State) (bank : List Node) (names : Names) (vs : List Verdict) (checks : ℕ) (current : Bool) (f : State → Effect) (b : ℕ) (r : Result Response Memory) (new : State) → state bank names vs checks current ≡ s → Does (state bank names vs checks false) (f (state bank names vs checks false)) b r new → Does s (f (moved_on s)) b r new
+moved_does s bank names vs checks current f b r new e h =
+    subst (λ x. Does x (f (moved_on x)) b r new) e (again bank names vs checks false current (f (state bank names vs checks false)) b r new h)

@@ -4,3 +4,7 @@ pub mod Doing
 pub mod Trees
 pub mod Whole
 pub mod Saying
+pub mod Keeping
+pub mod Following
+pub mod Proving
+pub mod Along

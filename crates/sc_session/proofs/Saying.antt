@@ -6,7 +6,7 @@ use Rattle.std.specs.List.{AllByRecursion}
 use Rattle.sc_text.specs.declared.code.Code.{Code}
 use Rattle.sc_text.specs.declared.code.Code.TheVariants as code
 use Rattle.sc_sexpr.specs.Shapes.{Shape}
-use Rattle.sc_commands.specs.Commands.{CommandShape, SetLogic, SetInfo, DeclareSort, DeclareConst, DeclareFun, Assert, CheckSat, Echo, Exit}
+use Rattle.sc_commands.specs.Commands.{CommandShape, SetLogic, SetInfo, DeclareSort, DeclareConst, DeclareFun, Assert, CheckSat, GetProof, Echo, Exit}
 use Rattle.sc_commands.specs.Forms.{command_of}
 use Rattle.sc_terms.specs.declared.nodes.Node.{Node}
 use Rattle.sc_terms.specs.declared.nodes.Sort.{Sort}
@@ -25,16 +25,17 @@ use Rattle.sc_flatten.specs.Laws.{MeaningsAgree}
 use Rattle.sc_tree.specs.declared.verdict.Verdict.{Verdict}
 use Rattle.sc_tree.specs.declared.verdict.Verdict.TheVariants.{Sat, Unsat, Unknown}
 use Rattle.sc_tree.specs.Verdicts.{IsJust}
-use Rattle.sc_session.specs.declared.response.Response.{Response}
-use Rattle.sc_session.specs.declared.response.Response.TheVariants as response
-use Rattle.sc_session.specs.States.{State, with_bank, with_names, IsSession}
-use Rattle.sc_session.specs.Effects.{Effect, Answers, Checks, quiet, refuses, declares, is_taken, declare_sort, declare_of, is_empty_list, assert_of, most_checks, effect, effect_of}
+use Rattle.sc_deriv.specs.declared.derivation.Derivation.{Derivation}
+use Rattle.sc_session.specs.Said.{Said}
+use Rattle.sc_session.specs.Said as response
+use Rattle.sc_session.specs.States.{State, with_bank, with_names, moved_on, proof, IsSession}
+use Rattle.sc_session.specs.Effects.{Effect, Answers, Checks, quiet, refuses, declares, is_taken, declare_sort, declare_of, is_empty_list, assert_of, most_checks, get_proof, effect, effect_of}
 use Rattle.sc_session.specs.Meaning.{Assertion, asserts, asserts_of, is_true, Says, IsRight}
 use Rattle.sc_session.specs.Laws.{SayTheSame}
 use Rattle.sc_session.proofs.Standing.{sort_asserts_none, constant_asserts_none, one_more_assertion, map-append}
 
 -- the answer is none that lets the script go on
-answered : {r q : Response} {s t : State} → Answers r s ≡ Answers q t → (r ≡ q) × (s ≡ t)
+answered : {r q : Said} {s t : State} → Answers r s ≡ Answers q t → (r ≡ q) × (s ≡ t)
 answered e = (cc, cc)
 
 -- ---- what lets the script go on is quiet, and the rest is refused
@@ -67,26 +68,33 @@ module _ (s : State) (line : ℕ) where
   Leaves (Answers r t) = t.verdicts ≡ s.verdicts
   Leaves (Checks problem) = problem ≡ stock s.bank (assertions_in_force s.names)
 
-  declares_leave : (fault : Option Code) (names : Names) → Leaves (declares fault names s line)
-  declares_leave (Some c) names = refl
-  declares_leave None names = refl
+  -- what follows on a session with the same terms, names and verdicts
+  module _ (u : State) (verdicts : u.verdicts ≡ s.verdicts) where
+    declares_leave : (fault : Option Code) (names : Names) → Leaves (declares fault names u line)
+    declares_leave (Some c) names = verdicts
+    declares_leave None names = verdicts
 
-  declared_leaves : (sort : Result Sort Code) (name : List ℕ) → Leaves (declare_of sort name s line)
-  declared_leaves (Err c) name = refl
-  declared_leaves (Ok sort) name = declares_leave (fault_of s.names name (length s.names.constants)) (with_constant s.names (record { name = name; sort = sort }))
+    declared_leaves : (sort : Result Sort Code) (name : List ℕ) → Leaves (declare_of sort name u line)
+    declared_leaves (Err c) name = verdicts
+    declared_leaves (Ok sort) name = declares_leave (fault_of u.names name (length u.names.constants)) (with_constant u.names (record { name = name; sort = sort }))
 
-  asserted_leaves : (o : Outcome ℕ) → Leaves (assert_of o s line)
-  asserted_leaves (Fault c bank) = refl
-  asserted_leaves (Done n bank) = refl
+    asserted_leaves : (o : Outcome ℕ) → Leaves (assert_of o u line)
+    asserted_leaves (Fault c bank) = verdicts
+    asserted_leaves (Done n bank) = verdicts
+
+  proof_leaves : (d : Option Derivation) → Leaves (get_proof d s line)
+  proof_leaves (Some d) = refl
+  proof_leaves None = refl
 
   command_leaves : (c : CommandShape) → Leaves (effect s c line)
   command_leaves SetLogic = refl
   command_leaves SetInfo = refl
-  command_leaves (DeclareSort name arity) = either Leaves (is_taken s.names name) _ _ refl (either Leaves (bytes_eq (codes "0") arity) _ _ (declares_leave (fault_of s.names name (length s.names.sorts)) (with_sort s.names name)) refl)
-  command_leaves (DeclareConst name sort) = either Leaves (is_taken s.names name) _ _ refl (declared_leaves (sort_of s.names sort) name)
-  command_leaves (DeclareFun name arguments range) = either Leaves (is_taken s.names name) _ _ refl (either Leaves (is_empty_list arguments) _ _ (declared_leaves (sort_of s.names range) name) refl)
-  command_leaves (Assert term) = asserted_leaves (core term (record { bank = s.bank; names = s.names }))
-  command_leaves CheckSat = either Leaves (nat_le most_checks (length s.verdicts)) (refuses line (code.E16 most_checks) s) (Checks (stock s.bank (assertions_in_force s.names))) refl refl
+  command_leaves (DeclareSort name arity) = either Leaves (is_taken s.names name) _ _ refl (either Leaves (bytes_eq (codes "0") arity) _ _ (declares_leave (moved_on s) refl (fault_of s.names name (length s.names.sorts)) (with_sort s.names name)) refl)
+  command_leaves (DeclareConst name sort) = either Leaves (is_taken s.names name) _ _ refl (declared_leaves (moved_on s) refl (sort_of s.names sort) name)
+  command_leaves (DeclareFun name arguments range) = either Leaves (is_taken s.names name) _ _ refl (either Leaves (is_empty_list arguments) _ _ (declared_leaves (moved_on s) refl (sort_of s.names range) name) refl)
+  command_leaves (Assert term) = asserted_leaves (moved_on s) refl (core term (record { bank = s.bank; names = s.names }))
+  command_leaves CheckSat = either Leaves (nat_le most_checks s.checks) (refuses line (code.E16 most_checks) s) (Checks (stock s.bank (assertions_in_force s.names))) refl refl
+  command_leaves GetProof = proof_leaves (proof s)
   command_leaves (Echo literal) = refl
   command_leaves Exit = refl
 
@@ -94,7 +102,7 @@ module _ (s : State) (line : ℕ) where
   item_leaves (Err c) = refl
   item_leaves (Ok c) = command_leaves c
 
-kept : (s t : State) (line : ℕ) (r : Response) (c : Result CommandShape Code) → effect_of c s line ≡ Answers r t → t.verdicts ≡ s.verdicts
+kept : (s t : State) (line : ℕ) (r : Said) (c : Result CommandShape Code) → effect_of c s line ≡ Answers r t → t.verdicts ≡ s.verdicts
 kept s t line r c e = subst (Leaves s line) e (item_leaves s line c)
 
 is_stock : (s : State) (line : ℕ) (problem : Parts) (c : Result CommandShape Code) → effect_of c s line ≡ Checks problem → problem ≡ stock s.bank (assertions_in_force s.names)
@@ -146,23 +154,33 @@ module _
     asserted term (Done n bank) is e =
         subst (λ x. Says x (terms ++ record { term = term; names = s.names } ∷ [])) (sym (quiet_is s t line bytes (with_names (with_bank s bank) (with_assertion s.names n)) e)) (more_says s terms term n bank session says is)
 
+    proved : (d : Option Derivation) → get_proof d s line ≡ Answers (response.Text bytes) t → Says t (terms ++ [])
+    proved (Some d) e = unchanged (sym (answered e).1)
+    proved None e = refused s t line bytes code.E14 s e
+
+  module _ (s t : State) (terms : List Assertion) (line : ℕ) (bytes : List ℕ) (session : IsSession s) (says : Says s terms) where
+    -- a session goes on as one before a declaration or an assertion does
+    moved : IsSession (moved_on s)
+    moved = record { bank = session.bank; names = session.names; sorted = session.sorted }
+
     commanded : (c : CommandShape) → effect s c line ≡ Answers (response.Text bytes) t → Says t (terms ++ asserts s.names c)
-    commanded SetLogic e = unchanged (quiet_is s t line bytes s e)
-    commanded SetInfo e = unchanged (quiet_is s t line bytes s e)
+    commanded SetLogic e = unchanged s t terms line bytes session says (quiet_is s t line bytes s e)
+    commanded SetInfo e = unchanged s t terms line bytes session says (quiet_is s t line bytes s e)
     commanded (DeclareSort name arity) e =
-        branch s t line bytes (is_taken s.names name) _ _ (λ q. refused s t line bytes code.E9 s q)
-        (branch s t line bytes (bytes_eq (codes "0") arity) _ _ (sort_declared name) (λ q. refused s t line bytes code.E8 s q))
+        branch s t line bytes (is_taken s.names name) _ _ (λ q. refused s t line bytes code.E9 (moved_on s) q)
+        (branch s t line bytes (bytes_eq (codes "0") arity) _ _ (sort_declared (moved_on s) t terms line bytes moved says name) (λ q. refused s t line bytes code.E8 (moved_on s) q))
         e
     commanded (DeclareConst name sort) e =
-        branch s t line bytes (is_taken s.names name) _ _ (λ q. refused s t line bytes code.E9 s q) (declared (sort_of s.names sort) name) e
+        branch s t line bytes (is_taken s.names name) _ _ (λ q. refused s t line bytes code.E9 (moved_on s) q) (declared (moved_on s) t terms line bytes moved says (sort_of s.names sort) name) e
     commanded (DeclareFun name arguments range) e =
-        branch s t line bytes (is_taken s.names name) _ _ (λ q. refused s t line bytes code.E9 s q)
-        (branch s t line bytes (is_empty_list arguments) _ _ (declared (sort_of s.names range) name) (λ q. refused s t line bytes code.E8 s q))
+        branch s t line bytes (is_taken s.names name) _ _ (λ q. refused s t line bytes code.E9 (moved_on s) q)
+        (branch s t line bytes (is_empty_list arguments) _ _ (declared (moved_on s) t terms line bytes moved says (sort_of s.names range) name) (λ q. refused s t line bytes code.E8 (moved_on s) q))
         e
-    commanded (Assert term) e = asserted term (core term (record { bank = s.bank; names = s.names })) refl e
+    commanded (Assert term) e = asserted (moved_on s) t terms line bytes moved says term (core term (record { bank = s.bank; names = s.names })) refl e
     commanded CheckSat e =
         branch s t line bytes _ _ _ (λ q. refused s t line bytes (code.E16 most_checks) s q) (λ q. unchecked s t line bytes (stock s.bank (assertions_in_force s.names)) q) e
-    commanded (Echo literal) e = unchanged (sym (answered e).1)
+    commanded GetProof e = proved s t terms line bytes session says (proof s) e
+    commanded (Echo literal) e = unchanged s t terms line bytes session says (sym (answered e).1)
     commanded Exit e = absurd (let r = (answered e).0 in cc)
 
     taken : (c : Result CommandShape Code) → effect_of c s line ≡ Answers (response.Text bytes) t → Says t (terms ++ asserts_of s.names c)

@@ -8,7 +8,7 @@ use Rattle.sc_sexpr.specs.declared.item.Last.TheVariants as last
 use Rattle.sc_print.specs.Spelling.{spelt_error}
 use Rattle.sc_tree.specs.declared.verdict.Verdict.{Verdict}
 use Rattle.sc_tree.specs.Verdicts.{IsJust}
-use Rattle.sc_session.specs.declared.response.Response.TheVariants as response
+use Rattle.sc_session.specs.Said as said
 use Rattle.sc_session.specs.Scripts.{Item, Script}
 use Rattle.sc_session.specs.States.{State, start, with_verdict}
 use Rattle.sc_session.specs.Effects.{Effect, Answers, Checks, turn, verdict_line}
@@ -42,9 +42,9 @@ at_last (last.Bad fault) = failed (fault_line fault)
 
 -- A check-sat takes the next verdict, and without one the course ends before it.
 abbrev pub course_after : Effect → State → List Verdict → (State → List Verdict → Course) → Course
-course_after (Answers (response.Text bytes) t) s vs rest = behind bytes (rest t vs)
-course_after (Answers (response.Error bytes) t) s vs rest = failed bytes
-course_after (Answers (response.Exit bytes) t) s vs rest = done bytes
+course_after (Answers (said.Text bytes) t) s vs rest = behind bytes (rest t vs)
+course_after (Answers (said.Error bytes) t) s vs rest = failed bytes
+course_after (Answers (said.Exit bytes) t) s vs rest = done bytes
 course_after (Checks problem) s [] rest = done []
 course_after (Checks problem) s (v ∷ vs) rest = behind (verdict_line v) (rest (with_verdict s v) vs)
 
@@ -53,9 +53,9 @@ course s [] last vs = at_last last
 course s (i ∷ is) last vs = course_after (turn s i) s vs (λ t us. course t is last us)
 
 abbrev pub just_after : Bool → ℕ → Effect → State → List Assertion → Item → List Verdict → (State → List Assertion → List Verdict → Type 0) → Type 0
-just_after may_miss budget (Answers (response.Text bytes) t) s terms i vs rest = rest t (terms ++ asserted_by s i) vs
-just_after may_miss budget (Answers (response.Error bytes) t) s terms i vs rest = vs ≡ []
-just_after may_miss budget (Answers (response.Exit bytes) t) s terms i vs rest = vs ≡ []
+just_after may_miss budget (Answers (said.Text bytes) t) s terms i vs rest = rest t (terms ++ asserted_by s i) vs
+just_after may_miss budget (Answers (said.Error bytes) t) s terms i vs rest = vs ≡ []
+just_after may_miss budget (Answers (said.Exit bytes) t) s terms i vs rest = vs ≡ []
 just_after may_miss budget (Checks problem) s terms i [] rest = may_miss ≡ true
 just_after may_miss budget (Checks problem) s terms i (v ∷ vs) rest = IsJust problem budget v × IsRight terms v × rest (with_verdict s v) terms vs
 

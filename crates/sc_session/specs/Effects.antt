@@ -5,7 +5,7 @@ use Rattle.sc_text.specs.declared.code.Code.{Code}
 use Rattle.sc_text.specs.declared.code.Code.TheVariants as code
 use Rattle.sc_text.specs.Names.{is_free_in_bars}
 use Rattle.sc_sexpr.specs.Shapes.{Shape, Listed, Empty}
-use Rattle.sc_commands.specs.Commands.{CommandShape, SetLogic, SetInfo, DeclareSort, DeclareConst, DeclareFun, Assert, CheckSat, Echo, Exit}
+use Rattle.sc_commands.specs.Commands.{CommandShape, SetLogic, SetInfo, DeclareSort, DeclareConst, DeclareFun, Assert, CheckSat, GetProof, Echo, Exit}
 use Rattle.sc_commands.specs.Forms.{command_of}
 use Rattle.sc_print.specs.Spelling.{spelt_error}
 use Rattle.sc_terms.specs.declared.nodes.Sort.{Sort}
@@ -15,20 +15,22 @@ use Rattle.sc_elab.specs.States.{Outcome, Done, Fault}
 use Rattle.sc_elab.specs.Elab.{core}
 use Rattle.sc_elab.specs.Sorts.{sort_of}
 use Rattle.sc_flatten.specs.Stock.{stock}
+use Rattle.sc_deriv.specs.declared.derivation.Derivation.{Derivation}
+use Rattle.sc_deriv_text.specs.Text.{text_of}
 use Rattle.sc_tree.specs.declared.verdict.Verdict.{Verdict}
 use Rattle.sc_tree.specs.declared.verdict.Verdict.TheVariants.{Sat, Unsat, Unknown}
-use Rattle.sc_session.specs.declared.response.Response.{Response}
-use Rattle.sc_session.specs.declared.response.Response.TheVariants as response
+use Rattle.sc_session.specs.Said.{Said}
+use Rattle.sc_session.specs.Said as said
 use Rattle.sc_session.specs.Scripts.{Item}
-use Rattle.sc_session.specs.States.{State, with_bank, with_names}
+use Rattle.sc_session.specs.States.{State, with_bank, with_names, moved_on, proof}
 
 -- the most check-sats of a script
 abbrev pub most_checks : ℕ
 most_checks = 10000
 
--- A response and the session behind it; or a check-sat of this problem, whose response is its verdict.
+-- What is said, and the session behind it; or a check-sat of this problem, whose response is its verdict.
 pub data Effect : Type 0 where
-  Answers : Response → State → Effect
+  Answers : Said → State → Effect
   Checks : Parts → Effect
 
 -- a line feed ends each response
@@ -37,11 +39,11 @@ line_of text = text ++ 10 ∷ []
 
 -- no bytes at all
 abbrev pub quiet : State → Effect
-quiet s = Answers (response.Text []) s
+quiet s = Answers (said.Text []) s
 
 -- the error with this code ends the script
 abbrev pub refuses : ℕ → Code → State → Effect
-refuses line code s = Answers (response.Error (spelt_error line code)) s
+refuses line code s = Answers (said.Error (spelt_error line code)) s
 
 -- the names after a declaration, unless there is a fault
 abbrev pub declares : Option Code → Names → State → ℕ → Effect
@@ -77,20 +79,38 @@ assert_of (Done n bank) s line = quiet (with_names (with_bank s bank) (with_asse
 
 abbrev pub check_sat : State → ℕ → Effect
 check_sat s line =
-    if nat_le most_checks (length s.verdicts) then refuses line (code.E16 most_checks) s
+    if nat_le most_checks s.checks then refuses line (code.E16 most_checks) s
     else Checks (stock s.bank (assertions_in_force s.names))
+
+-- the text of the derivation, where there is one
+abbrev pub get_proof : Option Derivation → State → ℕ → Effect
+get_proof (Some d) s line = Answers (said.Text (text_of d)) s
+get_proof None s line = refuses line code.E14 s
+
+abbrev pub declares_sort : State → List ℕ → List ℕ → ℕ → Effect
+declares_sort s name arity line = if_free name s line (if bytes_eq (codes "0") arity then declare_sort name s line else refuses line code.E8 s)
+
+abbrev pub declares_const : State → List ℕ → Shape → ℕ → Effect
+declares_const s name sort line = if_free name s line (declare name sort s line)
+
+abbrev pub declares_fun : State → List ℕ → Shape → Shape → ℕ → Effect
+declares_fun s name arguments range line = if_free name s line (if is_empty_list arguments then declare name range s line else refuses line code.E8 s)
+
+abbrev pub asserts_term : State → Shape → ℕ → Effect
+asserts_term s term line = assert_of (core term (record { bank = s.bank; names = s.names })) s line
 
 -- what a command on this line does
 abbrev pub effect : State → CommandShape → ℕ → Effect
 effect s SetLogic line = quiet s
 effect s SetInfo line = quiet s
-effect s (DeclareSort name arity) line = if_free name s line (if bytes_eq (codes "0") arity then declare_sort name s line else refuses line code.E8 s)
-effect s (DeclareConst name sort) line = if_free name s line (declare name sort s line)
-effect s (DeclareFun name arguments range) line = if_free name s line (if is_empty_list arguments then declare name range s line else refuses line code.E8 s)
-effect s (Assert term) line = assert_of (core term (record { bank = s.bank; names = s.names })) s line
+effect s (DeclareSort name arity) line = declares_sort (moved_on s) name arity line
+effect s (DeclareConst name sort) line = declares_const (moved_on s) name sort line
+effect s (DeclareFun name arguments range) line = declares_fun (moved_on s) name arguments range line
+effect s (Assert term) line = asserts_term (moved_on s) term line
 effect s CheckSat line = check_sat s line
-effect s (Echo literal) line = Answers (response.Text (line_of literal)) s
-effect s Exit line = Answers (response.Exit []) s
+effect s GetProof line = get_proof (proof s) s line
+effect s (Echo literal) line = Answers (said.Text (line_of literal)) s
+effect s Exit line = Answers (said.Exit []) s
 
 abbrev pub effect_of : Result CommandShape Code → State → ℕ → Effect
 effect_of (Ok c) s line = effect s c line

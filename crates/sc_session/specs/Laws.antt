@@ -5,8 +5,8 @@ use Rattle.sc_flatten.specs.Stock.{stock}
 use Rattle.sc_stack.specs.Names.{assertions_in_force}
 use Rattle.sc_tree.specs.declared.verdict.Verdict.{Verdict}
 use Rattle.sc_tree.specs.Verdicts.{IsJust}
-use Rattle.sc_session.specs.declared.response.Response.{Response}
-use Rattle.sc_session.specs.declared.response.Response.TheVariants as responses
+use Rattle.sc_session.specs.Said.{Said}
+use Rattle.sc_session.specs.Said as said
 use Rattle.sc_session.specs.Scripts.{Item, Script, Reads}
 use Rattle.sc_session.specs.States.{State, start, with_verdict, IsSession}
 use Rattle.sc_session.specs.Effects.{Answers, Checks, turn}
@@ -21,9 +21,9 @@ pub record AreRead : Type 0 where
 pub record SayTheSame : Type 0 where
   pub starts : Says start []
   -- behind a command, unless it ends the script
-  pub goes_on : (s t : State) (terms : List Assertion) (i : Item) (bytes : List ℕ) → IsSession s → Says s terms → turn s i ≡ Answers (responses.Text bytes) t → Says t (terms ++ asserted_by s i)
+  pub goes_on : (s t : State) (terms : List Assertion) (i : Item) (bytes : List ℕ) → IsSession s → Says s terms → turn s i ≡ Answers (said.Text bytes) t → Says t (terms ++ asserted_by s i)
   -- only a check-sat adds a verdict, and its problem is the stock of the assertions in force
-  pub keeps : (s t : State) (i : Item) (r : Response) → turn s i ≡ Answers r t → t.verdicts ≡ s.verdicts
+  pub keeps : (s t : State) (i : Item) (r : Said) → turn s i ≡ Answers r t → t.verdicts ≡ s.verdicts
   pub checks : (s : State) (i : Item) (problem : Parts) → turn s i ≡ Checks problem → problem ≡ stock s.bank (assertions_in_force s.names)
   pub checked : (s : State) (terms : List Assertion) (v : Verdict) → Says s terms → Says (with_verdict s v) terms
   -- a just verdict is right for the terms

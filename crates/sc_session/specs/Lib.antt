@@ -1,7 +1,10 @@
 pub mod Scripts
 pub mod States
+pub mod Said
 pub mod Effects
 pub mod Doing
+pub mod Tracing
+pub mod Proving
 pub mod Meaning
 pub mod Courses
 pub mod Laws

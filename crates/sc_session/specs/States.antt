@@ -1,35 +1,62 @@
 -- A session at a moment.
-use Rattle.std.specs.Prelude.{List, [], ◌∷◌, ◌++◌}
+use Rattle.std.specs.Prelude.{ℕ, ◌+◌, ◌-◌, Bool, true, false, if◌then◌else◌, List, [], ◌∷◌, ◌++◌, length, slice_get, Option, Some, None}
 use Rattle.std.specs.List.{AllByRecursion}
 use Rattle.sc_terms.specs.declared.nodes.Node.{Node}
 use Rattle.sc_terms.specs.Bank.{IsBank, IsFormulaOf, HasSorts}
 use Rattle.sc_sorts.specs.Sorted.{IsWellSortedBank}
 use Rattle.sc_sorts.specs.Pure.{IsPureBank}
 use Rattle.sc_stack.specs.Names.{Names, IsNames, no_names, sorts_of, assertions_in_force}
+use Rattle.sc_deriv.specs.declared.derivation.Derivation.{Derivation}
 use Rattle.sc_tree.specs.declared.verdict.Verdict.{Verdict}
+use Rattle.sc_tree.specs.declared.verdict.Verdict.TheVariants.{Sat, Unsat, Unknown}
 
--- the terms made so far, the names and assertions that stand, and the verdicts of the check-sats done
+-- the terms made so far, the names and assertions that stand, the verdicts that were given, how many check-sats were done, and whether the last of them is current: nothing was declared or asserted behind it
 pub record State : Type 0 where
   pub bank : List Node
   pub names : Names
   pub verdicts : List Verdict
+  pub checks : ℕ
+  pub current : Bool
 
-abbrev pub state : List Node → Names → List Verdict → State
-state bank names verdicts = record { bank = bank; names = names; verdicts = verdicts }
+abbrev pub state : List Node → Names → List Verdict → ℕ → Bool → State
+state bank names verdicts checks current = record { bank = bank; names = names; verdicts = verdicts; checks = checks; current = current }
 
 -- nothing was done
 abbrev pub start : State
-start = state [] no_names []
+start = state [] no_names [] 0 false
 
 abbrev pub with_bank : State → List Node → State
-with_bank s bank = record { bank = bank; names = s.names; verdicts = s.verdicts }
+with_bank s bank = state bank s.names s.verdicts s.checks s.current
 
 abbrev pub with_names : State → Names → State
-with_names s names = record { bank = s.bank; names = names; verdicts = s.verdicts }
+with_names s names = state s.bank names s.verdicts s.checks s.current
 
--- a check-sat was done
+-- a declaration or an assertion comes, so no check-sat is current
+abbrev pub moved_on : State → State
+moved_on s = state s.bank s.names s.verdicts s.checks false
+
+-- a check-sat was done, and its verdict is not asked
+abbrev pub with_check : State → State
+with_check s = state s.bank s.names s.verdicts (s.checks + 1) true
+
+-- a check-sat was done, with this verdict
 abbrev pub with_verdict : State → Verdict → State
-with_verdict s v = record { bank = s.bank; names = s.names; verdicts = s.verdicts ++ v ∷ [] }
+with_verdict s v = state s.bank s.names (s.verdicts ++ v ∷ []) (s.checks + 1) true
+
+-- the verdict of the check-sat that is current
+abbrev pub current_verdict : State → Option Verdict
+current_verdict s = if s.current then slice_get s.verdicts (length s.verdicts - 1) else None
+
+-- the derivation of an unsat
+abbrev pub derivation_of : Option Verdict → Option Derivation
+derivation_of (Some (Unsat d)) = Some d
+derivation_of (Some (Sat m)) = None
+derivation_of (Some (Unknown t)) = None
+derivation_of None = None
+
+-- the derivation of the current verdict
+abbrev pub proof : State → Option Derivation
+proof s = derivation_of (current_verdict s)
 
 -- The nodes are well sorted, and no inequality or Int term is among them. The constants have the sorts that were declared, and each assertion in force is a formula of the bank.
 pub record IsSorted (bank : List Node) (names : Names) : Type 0 where

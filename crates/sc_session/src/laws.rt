@@ -1,6 +1,8 @@
 //! Laws of the definitions.
 
 ghost use Rattle.sc_session.specs.Laws.{AreRead, SayTheSame};
+ghost use Rattle.sc_session.specs.Proving.{ProofsRefute, TracesGoAlong};
+ghost use Rattle.sc_session.specs.Tracing.{TracesKeep};
 
 use sc_elab::{elaboration_grows_bank, elaboration_keeps_meaning};
 use sc_flatten::meanings_agree;
@@ -24,3 +26,24 @@ pub fn sessions_say_the_same()
     elaboration_grows_bank();
     meanings_agree();
 }
+
+/// Following a script without solving keeps the formulas that were made, up to an error; what a
+/// `(get-proof)` asks for are the assertions in force.
+pub fn traces_keep_formulas()
+    ensures { TracesKeep }
+{
+    elaboration_grows_bank();
+}
+
+/// Where the verdicts of a session are just, the derivation that `(get-proof)` answers refutes the
+/// problem of the assertions in force.
+pub fn proofs_refute()
+    ensures { ProofsRefute }
+{}
+
+/// Following a script without solving goes along with solving it: the two sessions differ only in
+/// their verdicts, and each item has the same error or none. A `(get-proof)` behind a current
+/// check-sat is never an error for the one that follows.
+pub fn traces_go_along()
+    ensures { TracesGoAlong }
+{}

@@ -20,6 +20,9 @@ use std::alloc::Global;
 pub enum Response {
     /// The command was done.
     Text(Sequence<u8>),
+    /// The command was `(get-proof)`, and the session has a proof: the bytes are those of the text
+    /// of [`Session::proof`](crate::Session::proof), which this does not hold.
+    Proof,
     /// The command has a fault, `(error "line L: Ek text")`. The script ends with it.
     Error(Sequence<u8>),
     /// The command was `(exit)`. The script ends with it.

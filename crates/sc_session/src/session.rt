@@ -1,7 +1,7 @@
 //! A session.
 
-ghost use Rattle.std.specs.Prelude.{◌≡◌, ◌+◌, ◌<◌, ◌≤◌, ◌^◌, ℕ, length, IfOk};
-ghost use Rattle.sc_commands.specs.Commands.{seen, DeclareSort, DeclareConst, DeclareFun, Assert};
+ghost use Rattle.std.specs.Prelude.{◌≡◌, ◌+◌, ◌<◌, ◌≤◌, ◌^◌, ℕ, true, length, option_copied, IfOk};
+ghost use Rattle.sc_commands.specs.Commands.{seen};
 ghost use Rattle.sc_sexpr.specs.declared.tree.Tree.TheVariants as trees;
 ghost use Rattle.sc_sexpr.specs.Shapes.{shape};
 ghost use Rattle.sc_sexpr.specs.Trees.{IsItem};
@@ -9,7 +9,8 @@ ghost use Rattle.sc_session.specs.Scripts.{Item, IsTold};
 ghost use Rattle.sc_terms.specs.Bank.{IsBank, IsFormulaOf};
 ghost use Rattle.sc_stack.specs.Names.{IsNames};
 ghost use Rattle.sc_elab.specs.States as outcomes;
-ghost use Rattle.sc_session.specs.States.{State, start, with_bank, IsSession};
+ghost use Rattle.sc_session.specs.States.{State, start, with_bank, proof, IsSession};
+ghost use Rattle.sc_session.specs.Tracing.{trace, followed, followed_proof, is_quick, IsTraced, IsStepped};
 ghost use Rattle.sc_session.specs.Effects as effects;
 ghost use Rattle.sc_session.specs.Effects.{effect, turn, is_taken, assert_of};
 ghost use Rattle.sc_session.specs.Doing.{Does};
@@ -17,6 +18,7 @@ ghost use Rattle.sc_session.specs.Doing as doing;
 
 use crate::pure::{stocks_are_of_banks, stocks_are_pure};
 use crate::response::{Response, line as line_of, quiet, refusal, told};
+use crate::tracing::{Traced, known_of, traced_refusal};
 use crate::verdicts::Verdicts;
 use sc_base::Sequence;
 use sc_commands::{Command, read_command};
@@ -26,22 +28,27 @@ use sc_sexpr::{Items, Tree, read_tree};
 use sc_stack::{Stack, StackError};
 use sc_terms::{Bank, Memory};
 use sc_text::{Code, is_free_in_bars};
-use sc_tree::{Decider, Verdict};
+use sc_tree::{Decider, Derivation, Verdict};
 use std::alloc::Global;
 use std::marker::Model;
 
 /// The most check-sats of a script.
-const MOST_CHECKS: usize = 10_000;
+const MOST_CHECKS: u32 = 10_000;
 
 /// What a script has declared and asserted so far, and the verdicts of its check-sats.
 ///
-/// Contracts see the terms made so far, the names and assertions in force, and the verdicts.
+/// Contracts see the terms made so far, the names and assertions in force, the verdicts, how many
+/// check-sats were done, and whether the last is current.
 #[derive(Drop)]
 pub struct Session {
     alloc: Global,
     bank: Bank,
     stack: Stack,
     verdicts: Verdicts,
+    /// How many check-sats were done.
+    checks: u32,
+    /// Whether nothing was declared or asserted behind the last of them.
+    current: bool,
 }
 
 impl Model for Session {
@@ -53,7 +60,7 @@ impl Model for Session {
 
     ghost coded = { Prim.hlevel (codes, verdict.the_row.coded) };
 
-    ghost view = { λ s. state s.bank s.stack s.verdicts };
+    ghost view = { λ s. state s.bank s.stack s.verdicts s.checks s.current };
 
     ghost invariant = { λ s. IsSorted s.bank s.stack };
 }
@@ -95,6 +102,8 @@ impl Session {
             bank: Bank::new(alloc),
             stack: Stack::new(alloc),
             verdicts: Verdicts::new(alloc),
+            checks: 0,
+            current: false,
         }
     }
 
@@ -121,7 +130,7 @@ impl Session {
 
     #[tactic(auto, using(crate::proofs::Standing::sorted_sort, crate::proofs::Standing::sorted_constant, crate::proofs::Doing::declares_does))]
     fn declare_sort(&mut self, name: &[u8], arity: &[u8], line: u64) -> Result<Response, Memory>
-        ensures { (b : ℕ) → Does self.old (effect self.old (DeclareSort name.now arity.now) line) b result self.new }
+        ensures { (b : ℕ) → Does self.old (effects.declares_sort self.old name.now arity.now line) b result self.new }
     {
         if is_taken(&self.stack, name) {
             return refusal(self.alloc, line, Code::E9);
@@ -149,7 +158,7 @@ impl Session {
     }
 
     fn declare_const(&mut self, name: &[u8], sort: &Tree<'_>, line: u64) -> Result<Response, Memory>
-        ensures { (b : ℕ) → Does self.old (effect self.old (DeclareConst name.now (shape sort.now)) line) b result self.new }
+        ensures { (b : ℕ) → Does self.old (effects.declares_const self.old name.now (shape sort.now) line) b result self.new }
     {
         if is_taken(&self.stack, name) {
             return refusal(self.alloc, line, Code::E9);
@@ -164,7 +173,7 @@ impl Session {
         range: &Tree<'_>,
         line: u64,
     ) -> Result<Response, Memory>
-        ensures { (b : ℕ) → Does self.old (effect self.old (DeclareFun name.now (shape (trees.List arguments.now)) (shape range.now)) line) b result self.new }
+        ensures { (b : ℕ) → Does self.old (effects.declares_fun self.old name.now (shape (trees.List arguments.now)) (shape range.now) line) b result self.new }
     {
         if is_taken(&self.stack, name) {
             return refusal(self.alloc, line, Code::E9);
@@ -188,7 +197,7 @@ impl Session {
 
     #[tactic(auto, using(crate::proofs::Standing::sorted_bank, crate::proofs::Standing::sorted_none))]
     fn assert(&mut self, term: &Tree<'_>, line: u64) -> Result<Response, Memory>
-        ensures { (b : ℕ) → Does self.old (effect self.old (Assert (shape term.now)) line) b result self.new }
+        ensures { (b : ℕ) → Does self.old (effects.asserts_term self.old (shape term.now) line) b result self.new }
     {
         elaboration_stays_pure();
         tell(&self.bank, &self.stack);
@@ -212,8 +221,8 @@ impl Session {
         requires limit { (1 ≤ budget) × (budget ≤ 2 ^ 40) }
         ensures { Does self.old (effects.check_sat self.old line) budget result self.new }
     {
-        if self.verdicts.as_slice().len() >= MOST_CHECKS {
-            return refusal(self.alloc, line, Code::E16(MOST_CHECKS as u64));
+        if self.checks >= MOST_CHECKS {
+            return refusal(self.alloc, line, Code::E16(u64::from(MOST_CHECKS)));
         }
         stocks_are_pure();
         stocks_are_of_banks();
@@ -222,7 +231,66 @@ impl Session {
         let verdict = decider.decide(self.alloc, &problem, &self.bank, budget)?;
         let response = told(self.alloc, &verdict)?;
         self.verdicts.push(verdict)?;
+        self.checks += 1;
+        self.current = true;
         Ok(response)
+    }
+
+    /// The derivation of the verdict that is current, where this is unsat. A verdict is current
+    /// from its check-sat until the next one, or until something is declared or asserted.
+    pub fn proof(&self) -> Option<&Derivation>
+        ensures { option_copied result ≡ proof self.now }
+    {
+        if !self.current {
+            return None;
+        }
+        match self.verdicts.as_slice().last() {
+            Some(Verdict::Unsat(derivation)) => Some(derivation),
+            _ => None,
+        }
+    }
+
+    fn get_proof(&self, line: u64) -> Result<Response, Memory>
+        ensures { (b : ℕ) → Does self.now (effects.get_proof (proof self.now) self.now line) b result self.now }
+    {
+        match self.proof() {
+            Some(_) => Ok(Response::Proof),
+            None => refusal(self.alloc, line, Code::E14),
+        }
+    }
+
+    /// Does a command whose response hangs on no verdict.
+    fn do_quick(&mut self, command: &Command<'_>, line: u64) -> Result<Response, Memory>
+        requires { is_quick (seen command.now) ≡ true }
+        ensures does { (b : ℕ) → Does self.old (effect self.old (seen command.now) line) b result self.new }
+        ensures quick { is_quick (seen command.now) ≡ true }
+    {
+        match command {
+            Command::SetLogic | Command::SetInfo => Ok(quiet(self.alloc)),
+            Command::DeclareSort { name, arity } => {
+                self.current = false;
+                self.declare_sort(name, arity, line)
+            }
+            Command::DeclareConst { name, sort } => {
+                self.current = false;
+                self.declare_const(name, sort, line)
+            }
+            Command::DeclareFun {
+                name,
+                arguments,
+                result,
+            } => {
+                self.current = false;
+                self.declare_fun(name, arguments, result, line)
+            }
+            Command::Assert { term } => {
+                self.current = false;
+                self.assert(term, line)
+            }
+            Command::Echo { literal } => line_of(self.alloc, literal),
+            Command::Exit => Ok(Response::Exit(Sequence::new(self.alloc))),
+            Command::CheckSat | Command::GetProof => unreachable!(),
+        }
     }
 
     /// Does a command that stands on this line of the script, with at most `budget` steps on each
@@ -230,7 +298,8 @@ impl Session {
     ///
     /// A declaration looks at its name first (E9), then at its arity or arguments (E8), and then at
     /// its sort (E6, E8). A term is as [`elaborate`] reads it, and each that it reads is asserted.
-    /// A script has at most 10,000 check-sats (E16).
+    /// A script has at most 10,000 check-sats (E16), and `(get-proof)` needs a current unsat (E14):
+    /// the text that it answers is that of [`Session::proof`].
     ///
     /// The only error is want of memory. After it the verdicts are those of the check-sats done
     /// before, what was declared and asserted may be forgotten, and no call but
@@ -246,18 +315,46 @@ impl Session {
         ensures { Does self.old (effect self.old (seen command.now) line) budget result self.new }
     {
         match command {
-            Command::SetLogic | Command::SetInfo => Ok(quiet(self.alloc)),
-            Command::DeclareSort { name, arity } => self.declare_sort(name, arity, line),
-            Command::DeclareConst { name, sort } => self.declare_const(name, sort, line),
-            Command::DeclareFun {
-                name,
-                arguments,
-                result,
-            } => self.declare_fun(name, arguments, result, line),
-            Command::Assert { term } => self.assert(term, line),
             Command::CheckSat => self.check_sat(line, budget, decider),
-            Command::Echo { literal } => line_of(self.alloc, literal),
-            Command::Exit => Ok(Response::Exit(Sequence::new(self.alloc))),
+            Command::GetProof => self.get_proof(line),
+            _ => self.do_quick(command, line),
+        }
+    }
+
+    fn trace_check(&mut self, line: u64) -> Result<Traced, Memory>
+        ensures { IsTraced (followed self.old (effects.check_sat self.old line)) result self.new }
+    {
+        if self.checks >= MOST_CHECKS {
+            return Ok(known_of(refusal(self.alloc, line, Code::E16(u64::from(MOST_CHECKS)))?));
+        }
+        self.checks += 1;
+        self.current = true;
+        Ok(Traced::Nothing)
+    }
+
+    fn trace_proof(&self, line: u64) -> Result<Traced, Memory>
+        ensures { IsTraced (followed_proof self.now line) result self.now }
+    {
+        if !self.current {
+            return Ok(known_of(refusal(self.alloc, line, Code::E14)?));
+        }
+        let assertions = Sequence::from_slice(self.alloc, self.stack.in_force())?;
+        Ok(Traced::Proof(assertions))
+    }
+
+    /// Does a command without solving, and gives what is known of it. A check-sat becomes current,
+    /// and has no verdict. So E14 comes exactly where none is current. The other errors are those of
+    /// [`Session::do_command`], which is not to be used for the same session.
+    ///
+    /// The only error is want of memory. After it no call but [`Session::into_verdicts`] is to be
+    /// made.
+    pub fn trace_command(&mut self, command: &Command<'_>, line: u64) -> Result<Traced, Memory>
+        ensures { IsTraced (trace self.old (seen command.now) line) result self.new }
+    {
+        match command {
+            Command::CheckSat => self.trace_check(line),
+            Command::GetProof => self.trace_proof(line),
+            _ => Ok(known_of(self.do_quick(command, line)?)),
         }
     }
 
@@ -283,6 +380,24 @@ impl Session {
         match read_command(tree) {
             Ok(command) => self.do_command(&command, line, budget, decider),
             Err(code) => refusal(self.alloc, line, code),
+        }
+    }
+
+    /// Does a top item of a script, whose first token stands on this line, without solving: a
+    /// command, or the error of what is none. The rest is as for [`Session::trace_command`].
+    pub fn trace_item(&mut self, text: &[u8], line: u64) -> Result<Traced, Memory>
+        requires fits { line + length text.now < 2 ^ 64 }
+        requires item { IsItem text.now line }
+        ensures traces { IfOk result (λ given. IsStepped self.old (record { text = text.now; line = line }) given self.new) }
+        ensures session { IsSession self.old }
+    {
+        tell(&self.bank, &self.stack);
+        let Ok(tree) = read_tree(self.alloc, text, line) else {
+            return Err(Memory);
+        };
+        match read_command(tree) {
+            Ok(command) => self.trace_command(&command, line),
+            Err(code) => traced_refusal(self.alloc, line, code),
         }
     }
 }

@@ -8,7 +8,7 @@ use Rattle.sc_session.proofs.Standing.{sorted_bank}
 use Rattle.sc_session.proofs.session.Session.assert.Goals as goal
 
 pub returns-in-Ok : goal.returns-in-Ok
-returns-in-Ok c = λ b. is_asserted c.args.self.now (state c.self.inside.bank c.self.inside.stack c.self.inside.verdicts) (shape c.args.term.now) c.args.line b c.in-Ok.formula c.elaborate.new.bank c.assert_formula.result c.assert_formula.new.self c.self.view_is c.in-Ok.ensures.exact (λ old k. c.assert_formula.ensures old c.args.line k)
+returns-in-Ok c = λ b. is_asserted c.args.self.now (state c.self.inside.bank c.self.inside.stack c.self.inside.verdicts c.self.inside.checks c.self.inside.current) (shape c.args.term.now) c.args.line b c.in-Ok.formula c.elaborate.new.bank c.assert_formula.result c.assert_formula.new.self c.self.view_is c.in-Ok.ensures.exact (λ old k. c.assert_formula.ensures old c.args.line k)
 
 pub invariant_of-self : goal.invariant_of-self
 invariant_of-self c =
