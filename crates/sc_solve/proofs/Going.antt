@@ -15,12 +15,12 @@ use Rattle.sc_sexpr.specs.Trees.{IsItem}
 use Rattle.sc_terms.specs.declared.problem.Parts.{Parts}
 use Rattle.sc_tree.specs.declared.verdict.Verdict.{Verdict}
 use Rattle.sc_tree.specs.Verdicts.{IsJust}
-use Rattle.sc_session.specs.declared.response.Response.{Response}
-use Rattle.sc_session.specs.declared.response.Response.TheVariants as response
+use Rattle.sc_session.specs.Said.{Said}
+use Rattle.sc_session.specs.Said as response
 use Rattle.sc_session.specs.Scripts.{Item, Script, IsTold, AreTold, IsScriptOf}
 use Rattle.sc_session.specs.States.{State, start, with_verdict, IsSession}
 use Rattle.sc_session.specs.Effects.{Effect, Answers, Checks, turn, verdict_line}
-use Rattle.sc_session.specs.Doing.{Does}
+use Rattle.sc_session.specs.Doing.{HasEffect}
 use Rattle.sc_session.specs.Meaning.{Assertion, asserted_by, Says, IsRight}
 use Rattle.sc_session.specs.Courses.{Course, behind, done, failed, fault_line, at_last, course, course_after, course_of, AreJust, just_after, HasVerdicts, HasFirstVerdicts}
 use Rattle.sc_session.specs.Laws.{SayTheSame}
@@ -125,7 +125,7 @@ module _ (law : SayTheSame) (budget : ℕ) (whole : Script) (before now : SinkMo
 
     -- the script goes on
     module _ (after : SinkMoment) (t : State) (r : Reading) (bytes : List ℕ) (told : AreTold r.tops is) (ends : whole.last ≡ r.last) (out : IsWritten before after (written ++ bytes)) where
-      goes_by : (e : Effect) → turn s i ≡ e → Does s e budget (Ok (response.Text bytes)) t → Underway budget whole before after t r
+      goes_by : (e : Effect) → turn s i ≡ e → HasEffect s e budget (response.Text bytes) t → Underway budget whole before after t r
       goes_by (Answers q u) at d =
           let text : turn s i ≡ Answers (response.Text bytes) t = at ∙ ap (λ x. Answers x u) (sym d.0) ∙ ap (Answers (response.Text bytes)) (sym d.1) in
           let same : t.verdicts ≡ s.verdicts = law.keeps s t i (response.Text bytes) text in
@@ -156,7 +156,7 @@ module _ (law : SayTheSame) (budget : ℕ) (whole : Script) (before now : SinkMo
 
     -- a response was given
     module _ (t : State) where
-      moved_text : (e : Effect) (r : Response) → turn s i ≡ e → Does s e budget (Ok r) t → IsMoved budget whole t written (bytes_of r)
+      moved_text : (e : Effect) (r : Said) → turn s i ≡ e → HasEffect s e budget r t → IsMoved budget whole t written (bytes_of r)
       moved_text (Answers (response.Text bytes) u) r at d =
           let text : turn s i ≡ Answers (response.Text bytes) t = at ∙ ap (Answers (response.Text bytes)) (sym d.1) in
           let same : t.verdicts ≡ s.verdicts = law.keeps s t i (response.Text bytes) text in
@@ -189,7 +189,7 @@ module _ (law : SayTheSame) (budget : ℕ) (whole : Script) (before now : SinkMo
           }
 
       -- it ends the script
-      over_error : (e : Effect) (bytes : List ℕ) → turn s i ≡ e → Does s e budget (Ok (response.Error bytes)) t → IsOver budget whole t written bytes true
+      over_error : (e : Effect) (bytes : List ℕ) → turn s i ≡ e → HasEffect s e budget (response.Error bytes) t → IsOver budget whole t written bytes true
       over_error (Answers q u) bytes at d =
           let text : turn s i ≡ Answers (response.Error bytes) t = at ∙ ap (λ x. Answers x u) (sym d.0) ∙ ap (Answers (response.Error bytes)) (sym d.1) in
           let same : t.verdicts ≡ s.verdicts = law.keeps s t i (response.Error bytes) text in
@@ -199,7 +199,7 @@ module _ (law : SayTheSame) (budget : ℕ) (whole : Script) (before now : SinkMo
           }
       over_error (Checks problem) bytes at (v, j, line, new) = absurd cc
 
-      over_exit : (e : Effect) (bytes : List ℕ) → turn s i ≡ e → Does s e budget (Ok (response.Exit bytes)) t → IsOver budget whole t written bytes false
+      over_exit : (e : Effect) (bytes : List ℕ) → turn s i ≡ e → HasEffect s e budget (response.Exit bytes) t → IsOver budget whole t written bytes false
       over_exit (Answers q u) bytes at d =
           let text : turn s i ≡ Answers (response.Exit bytes) t = at ∙ ap (λ x. Answers x u) (sym d.0) ∙ ap (Answers (response.Exit bytes)) (sym d.1) in
           let same : t.verdicts ≡ s.verdicts = law.keeps s t i (response.Exit bytes) text in
@@ -264,7 +264,7 @@ module _ (law : SayTheSame) (budget : ℕ) (whole : Script) (before now after : 
         let a = gives h.item h.is in
         goes_by law budget whole before now s session h.item h.items u.terms u.written u.says h.all h.just after t left a.0 h.told (u.ends ∙ ap (λ (x : Reading). x.last) e) (then_written before now after u.written a.0 u.out a.1.written) (turn s h.item) refl a.1.does
 
-    moved : (i : Head budget whole s u.terms u.written text line left) (given : Response) → Does s (turn s i.item) budget (Ok given) t → IsMoved budget whole t u.written (bytes_of given)
+    moved : (i : Head budget whole s u.terms u.written text line left) (given : Said) → HasEffect s (turn s i.item) budget given t → IsMoved budget whole t u.written (bytes_of given)
     moved h given d = moved_text law budget whole before now s session h.item h.items u.terms u.written u.says h.all h.just t (turn s h.item) given refl d
 
     pub ends : (x : Ending) → ((i : Item) → IsTold (record { text = text; line = line }) i → AnswerGives s t i budget now after (Some x)) → Responds budget whole before after x t.verdicts
@@ -337,7 +337,7 @@ at_fault budget whole before now after s r fault e ending.Done w u = absurd w
 at_fault budget whole before now after s r fault e ending.ReadFault w u = absurd w
 
 -- ---- an item's response, and how its bytes were written
-pub answered : (old new : State) (i : Item) (budget : ℕ) (before after : SinkMoment) (r : Response) (p : Result (Unit {0}) PutError) → Does old (turn old i) budget (Ok r) new → PutGives before after (bytes_of r) p → AnswerGives old new i budget before after (ended_with p (end_of r))
+pub answered : (old new : State) (i : Item) (budget : ℕ) (before after : SinkMoment) (r : Said) (p : Result (Unit {0}) PutError) → HasEffect old (turn old i) budget r new → PutGives before after (bytes_of r) p → AnswerGives old new i budget before after (ended_with p (end_of r))
 answered old new i budget before after (response.Text bytes) (Ok u) d w = (bytes, record { does = d; written = w })
 answered old new i budget before after (response.Error bytes) (Ok u) d w = (bytes, record { does = d; written = w })
 answered old new i budget before after (response.Exit bytes) (Ok u) d w = (bytes, record { does = d; written = w })

@@ -2,12 +2,12 @@
 use Rattle.std.specs.Prelude.{◌≡◌, ◌⊎◌, ℕ, List, Option, Some, None, Result, Ok, Err}
 use Rattle.sc_io.specs.Moments.{SinkMoment}
 use Rattle.sc_io.specs.Writing.{IsWritten, IsCutByFault, IsCutByMemory}
-use Rattle.sc_session.specs.declared.response.Response.{Response}
-use Rattle.sc_session.specs.declared.response.Response.TheVariants as response
+use Rattle.sc_session.specs.Said.{Said}
+use Rattle.sc_session.specs.Said as said
 use Rattle.sc_session.specs.Scripts.{Item}
 use Rattle.sc_session.specs.States.{State}
 use Rattle.sc_session.specs.Effects.{turn}
-use Rattle.sc_session.specs.Doing.{Does}
+use Rattle.sc_session.specs.Doing.{HasEffect}
 use Rattle.sc_session.specs.Courses.{fault_line}
 use Rattle.sc_sexpr.specs.declared.item.Fault.{Fault}
 use Rattle.sc_io.specs.declared.put.PutError.{PutError}
@@ -20,31 +20,31 @@ abbrev pub of_writing : PutError → Ending
 of_writing put.Sink = ending.WriteFault
 of_writing put.Memory = ending.Memory
 
-abbrev pub bytes_of : Response → List ℕ
-bytes_of (response.Text bytes) = bytes
-bytes_of (response.Error bytes) = bytes
-bytes_of (response.Exit bytes) = bytes
+abbrev pub bytes_of : Said → List ℕ
+bytes_of (said.Text bytes) = bytes
+bytes_of (said.Error bytes) = bytes
+bytes_of (said.Exit bytes) = bytes
 
 -- how the script ends with a response, or nothing where it goes on
-abbrev pub end_of : Response → Option Ending
-end_of (response.Text bytes) = None
-end_of (response.Error bytes) = Some ending.Error
-end_of (response.Exit bytes) = Some ending.Done
+abbrev pub end_of : Said → Option Ending
+end_of (said.Text bytes) = None
+end_of (said.Error bytes) = Some ending.Error
+end_of (said.Exit bytes) = Some ending.Done
 
 -- the same, where the bytes may not have been written whole
 abbrev pub ended_with : Result (Unit {0}) PutError → Option Ending → Option Ending
 ended_with (Ok u) end = end
 ended_with (Err e) end = Some (of_writing e)
 
--- the item's response was given, and its bytes written
-pub record IsAnswered (old new : State) (i : Item) (budget : ℕ) (before after : SinkMoment) (r : Response) : Type 0 where
-  pub does : Does old (turn old i) budget (Ok r) new
+-- the item was answered, and the bytes were written
+pub record IsAnswered (old new : State) (i : Item) (budget : ℕ) (before after : SinkMoment) (r : Said) : Type 0 where
+  pub does : HasEffect old (turn old i) budget r new
   pub written : IsWritten before after (bytes_of r)
 
--- the item's response was given, and the sink failed within its bytes, or wanted memory
+-- the item was answered, and the sink failed within the bytes, or wanted memory
 pub record IsCut (old new : State) (i : Item) (budget : ℕ) (Cut : List ℕ → Type 0) : Type 0 where
-  pub given : Response
-  pub does : Does old (turn old i) budget (Ok given) new
+  pub given : Said
+  pub does : HasEffect old (turn old i) budget given new
   pub cut : Cut (bytes_of given)
 
 -- there was no memory for the item's response, and nothing was written
@@ -54,9 +54,9 @@ pub record IsUnanswered (old new : State) (before after : SinkMoment) : Type 0 w
 
 -- What an item does: the script goes on behind it, or how it ends.
 abbrev pub AnswerGives : State → State → Item → ℕ → SinkMoment → SinkMoment → Option Ending → Type 0
-AnswerGives old new i budget before after None = (bytes : List ℕ) × IsAnswered old new i budget before after (response.Text bytes)
-AnswerGives old new i budget before after (Some ending.Done) = (bytes : List ℕ) × IsAnswered old new i budget before after (response.Exit bytes)
-AnswerGives old new i budget before after (Some ending.Error) = (bytes : List ℕ) × IsAnswered old new i budget before after (response.Error bytes)
+AnswerGives old new i budget before after None = (bytes : List ℕ) × IsAnswered old new i budget before after (said.Text bytes)
+AnswerGives old new i budget before after (Some ending.Done) = (bytes : List ℕ) × IsAnswered old new i budget before after (said.Exit bytes)
+AnswerGives old new i budget before after (Some ending.Error) = (bytes : List ℕ) × IsAnswered old new i budget before after (said.Error bytes)
 AnswerGives old new i budget before after (Some ending.ReadFault) = ⊥
 AnswerGives old new i budget before after (Some ending.WriteFault) = IsCut old new i budget (IsCutByFault before after)
 AnswerGives old new i budget before after (Some ending.Memory) = IsCut old new i budget (IsCutByMemory before after) ⊎ IsUnanswered old new before after

@@ -4,11 +4,14 @@ ghost use Rattle.std.specs.Prelude.{◌≡◌, ◌+◌, ◌<◌, ◌≤◌, ◌^
 ghost use Rattle.sc_sexpr.specs.Laws.{reading_of};
 ghost use Rattle.sc_sexpr.specs.Trees.{IsItem};
 ghost use Rattle.sc_session.specs.Scripts.{Item as Top, IsTold};
-ghost use Rattle.sc_session.specs.States.{start, IsSession};
+ghost use Rattle.sc_session.specs.Doing.{said_by};
+ghost use Rattle.sc_session.specs.States.{State, start, IsSession};
+ghost use Rattle.sc_io.specs.Writing.{PutGives};
 ghost use Rattle.sc_solve.specs.Answering.{of_writing, bytes_of, end_of, AnswerGives, RefuseGives};
 ghost use Rattle.sc_solve.specs.Ends.{RespondGives};
 
 use crate::ending::Ending;
+use sc_deriv_text::write;
 use sc_io::{PutError, Sink, put_all};
 use sc_session::{Response, Session, fault_line, sessions_say_the_same};
 use sc_sexpr::{Fault, Item, Splitter};
@@ -25,21 +28,31 @@ fn of_writing(error: PutError) -> Ending
     }
 }
 
-/// The bytes of a response.
-fn bytes_of(response: &Response) -> &[u8]
-    ensures { result.now ≡ bytes_of response.now }
+/// Writes what a response of the session says.
+fn put_response<O: Sink>(
+    session: &Session,
+    response: &Response,
+    out: &mut O,
+) -> Result<(), PutError>
+    ensures { PutGives (O.moment out.old) (O.moment out.new) (bytes_of (said_by response.now session.now)) result }
 {
     match response {
-        Response::Text(bytes) | Response::Error(bytes) | Response::Exit(bytes) => bytes.as_slice(),
+        Response::Text(bytes) | Response::Error(bytes) | Response::Exit(bytes) => {
+            put_all(out, bytes.as_slice())
+        }
+        Response::Proof => match session.proof() {
+            Some(derivation) => write(derivation, out),
+            None => put_all(out, &[]),
+        },
     }
 }
 
 /// How the script ends with a response, or nothing where it goes on.
 fn end_of(response: &Response) -> Option<Ending>
-    ensures { result ≡ end_of response.now }
+    ensures { (s : State) → result ≡ end_of (said_by response.now s) }
 {
     match response {
-        Response::Text(_) => None,
+        Response::Text(_) | Response::Proof => None,
         Response::Error(_) => Some(Ending::Error),
         Response::Exit(_) => Some(Ending::Done),
     }
@@ -63,7 +76,7 @@ fn answer<O: Sink, D: Decider>(
     let Ok(response) = session.do_item(text, line, budget, decider) else {
         return Some(Ending::Memory);
     };
-    match put_all(out, bytes_of(&response)) {
+    match put_response(session, &response, out) {
         Ok(()) => end_of(&response),
         Err(error) => Some(of_writing(error)),
     }
