@@ -4,6 +4,7 @@ pub mod NumbersAgain
 pub mod NumbersOnly
 pub mod Loop
 pub mod Puts
+pub mod Holding
 pub mod LineCounts
 pub mod Again
 pub mod Takes

@@ -1,7 +1,7 @@
 -- Pieces that are put one after the other.
 use Rattle.std.proofs.Common.{◌≡◌, ℕ, List, [], ◌∷◌, ◌++◌, Result, Err, refl, sym, ap, ◌∙◌, subst, append_assoc, append-nil, ◌+◌, suc, ◌<◌, length, drop, get_or, drop-cons, add-one, Bor}
 use Rattle.std.specs.Prelude.{codes}
-use Rattle.std.specs.List.{AllByRecursion, flat_map}
+use Rattle.std.specs.List.{flat_map}
 use Rattle.sc_io.specs.Moments.{SinkMoment}
 use Rattle.sc_io.specs.Writing.{IsWritten, PutGives}
 use Rattle.sc_io.specs.declared.put.PutError.{PutError}
@@ -9,8 +9,8 @@ use Rattle.sc_io.proofs.Writings.{IsPutting, starts, then_written, then_put, put
 use Rattle.sc_terms.specs.declared.atoms.Sign.{Sign}
 use Rattle.sc_deriv.specs.declared.derivation.Node.{Node}
 use Rattle.sc_deriv.specs.declared.derivation.Derivation.{Derivation}
-use Rattle.sc_deriv_text.specs.Spelling.{NodeFits, sign_byte, cube_bytes}
-use Rattle.sc_deriv_text.specs.Text.{before_name, node_line, node_lines, tree_text, text_of}
+use Rattle.sc_deriv_text.specs.Spelling.{sign_byte, cube_bytes}
+use Rattle.sc_deriv_text.specs.Text.{before_name, node_lines, tree_text, text_of}
 
 -- the rest is put, or a front of it
 pub last : (a b c : SinkMoment) (piece rest : List ℕ) (r : Result (Unit {0}) PutError) → IsPutting a b piece rest → PutGives b c rest r → PutGives a c piece r
@@ -54,24 +54,6 @@ named_parts word name = ap (λ (t : List ℕ). 40 ∷ t) (sym (append_assoc word
 -- what stands before a region's word
 pub cube_parts : (digits signs : List ℕ) → codes "(empty " ++ (digits ++ (32 ∷ (signs ++ (41 ∷ [])))) ≡ (codes "(empty " ++ (digits ++ (32 ∷ []))) ++ (signs ++ (41 ∷ []))
 cube_parts digits signs = ap (λ (t : List ℕ). codes "(empty " ++ t) (sym (append_assoc digits (32 ∷ []) (signs ++ (41 ∷ []))))
-
--- the lines of the nodes before these were put, and the numbers of those nodes fit
-pub record IsAt (a b : SinkMoment) (all rest : List Node) : Type 0 where
-  pub putting : IsPutting a b (node_lines all) (node_lines rest)
-  pub fits : AllByRecursion NodeFits rest → AllByRecursion NodeFits all
-
-pub begins : (a : SinkMoment) (all : List Node) → IsAt a a all all
-begins a all = record { putting = starts a (node_lines all); fits = λ f. f }
-
-pub line_goes : (a b c : SinkMoment) (all rest others : List Node) (n : Node) → IsAt a b all rest → rest ≡ n ∷ others → IsWritten b c (node_line n) → NodeFits n → IsAt a c all others
-line_goes a b c all rest others n w is p f = record {
-  putting = goes a b c (node_lines all) (node_lines rest) (node_line n) (node_lines others) w.putting (ap node_lines is) p;
-  fits = λ g. w.fits (subst (AllByRecursion NodeFits) (sym is) (f, g));
-}
-
-pub line_stops : (a b c : SinkMoment) (all rest others : List Node) (n : Node) (e : PutError) → IsAt a b all rest → rest ≡ n ∷ others → PutGives b c (node_line n) (Err e) → PutGives a c (node_lines all) (Err e)
-line_stops a b c all rest others n e w is p =
-    stops a b c (node_lines all) (node_lines rest) (node_line n) (node_lines others) e w.putting (ap node_lines is) p
 
 -- the item at a place, and those behind it
 pub item_front : {X : Type 0} (xs : List X) (i : ℕ) (x : X) → i < length xs → x ≡ get_or xs i x → drop i xs ≡ x ∷ drop (i + 1) xs

@@ -7,6 +7,7 @@
 
 mod errors;
 mod head;
+mod held;
 mod laws;
 mod lengths;
 mod parts;

@@ -175,7 +175,19 @@ fn stops_where_the_sink_fails(rt: HostRuntime) -> Result<(), Fail> {
     Ok(())
 }
 
-// A long tree is read and written without deep recursion.
+/// How many calls of a sink the text takes that is written of what was read; 0 where it is not written.
+fn call_count(alloc: Global, text: &[u8]) -> u64 {
+    let Ok(derivation) = read_text(alloc, text) else {
+        return 0;
+    };
+    let mut sink = MemorySink::new(alloc, Vec::new(alloc), 1 << 20);
+    if write(&derivation, &mut sink).is_err() {
+        return 0;
+    }
+    sink.calls()
+}
+
+// A long tree is read and written without deep recursion, and its lines go to the sink many at a time.
 #[test]
 fn long_derivations(rt: HostRuntime) -> Result<(), Fail> {
     let mut text = Vec::from_slice(rt.alloc(), b"(derivation\n(tree\n")?;
@@ -183,6 +195,24 @@ fn long_derivations(rt: HostRuntime) -> Result<(), Fail> {
         text.extend_from_slice(b"(eqrefl 1)\n")?;
     }
     text.extend_from_slice(b"(clash (sign 1))\n)\n)\n")?;
+    let (out, is_told) = written(rt.alloc(), text.as_slice());
+    assert_eq!(rt; out.as_slice() == text.as_slice(), true);
+    assert_eq!(rt; is_told, true);
+    assert_eq!(rt; call_count(rt.alloc(), text.as_slice()), 110);
+    Ok(())
+}
+
+// A line that is longer than what is held back stands between its neighbours.
+#[test]
+fn long_lines(rt: HostRuntime) -> Result<(), Fail> {
+    let mut text = Vec::from_slice(
+        rt.alloc(),
+        b"(derivation\n(tree\n(unit 1 0)\n(cut (empty 7 ",
+    )?;
+    for _ in 0..2_000 {
+        text.extend_from_slice(b"+-")?;
+    }
+    text.extend_from_slice(b"))\n(clash (sign 1))\n(clash (sign 2))\n)\n)\n")?;
     let (out, is_told) = written(rt.alloc(), text.as_slice());
     assert_eq!(rt; out.as_slice() == text.as_slice(), true);
     assert_eq!(rt; is_told, true);

@@ -1,13 +1,15 @@
 //! Writing a derivation, each node on a line of its own.
 
-ghost use Rattle.std.specs.Prelude.{◌≡◌, ◌<◌, ◌^◌, ◌∷◌, [], IfOk};
+ghost use Rattle.std.specs.Prelude.{◌≡◌, ◌<◌, ◌^◌, ◌∷◌, [], ◌++◌, if◌then◌else◌, IfOk, IsTrue};
 ghost use Rattle.std.specs.List.{flat_map, AllByRecursion};
 ghost use Rattle.sc_io.specs.Writing.{PutGives};
+ghost use Rattle.sc_deriv_text.specs.Held.{HoldGives};
 ghost use Rattle.sc_deriv_text.specs.Sexpr.{bytes_of};
 ghost use Rattle.sc_deriv_text.specs.Spelling as spec;
 ghost use Rattle.sc_deriv_text.specs.Text.{before_cube, before_name, node_line, node_lines, text_of};
 
 use crate::head::{Head, NameHead, OneHead, ThreeHead, TwoHead, head_word, name_word};
+use crate::held::Held;
 use itoa::Buffer;
 use sc_deriv::{Closing, Derivation, Node, Step};
 use sc_facts::FactName;
@@ -199,21 +201,54 @@ fn put_line<O: Sink>(out: &mut O, node: &Node) -> Result<(), PutError>
     put_all(out, b"\n")
 }
 
+/// Holds a node's line behind what is held, or changes nothing where it does not fit.
+fn hold_line(held: &mut Held, node: &Node) -> bool
+    ensures held { held.new.held ≡ (if result then held.old.held ++ node_line node.now else held.old.held) }
+    ensures fits { IsTrue result → spec.NodeFits node.now }
+{
+    let count = held.bytes().len();
+    if let Err(_) = put_line(held, node) {
+        held.truncate(count);
+        return false;
+    }
+    true
+}
+
+/// Holds a node's line behind what is held, and writes what was held before it where they do not fit together.
+fn put_or_hold<O: Sink>(out: &mut O, held: &mut Held, node: &Node) -> Result<(), PutError>
+    ensures put { HoldGives (O.moment out.old) (O.moment out.new) (held.old.held ++ node_line node.now) held.new.held result }
+    ensures fits { IfOk result (λ _. spec.NodeFits node.now) }
+{
+    if hold_line(held, node) {
+        return Ok(());
+    }
+    if let Err(error) = put_all(out, held.bytes()) {
+        return Err(error);
+    }
+    held.truncate(0);
+    if hold_line(held, node) {
+        return Ok(());
+    }
+    put_line(out, node)
+}
+
+/// Writes the lines of the nodes, many at a time.
 fn put_lines<O: Sink>(out: &mut O, nodes: &[Node]) -> Result<(), PutError>
     ensures put { PutGives (O.moment out.old) (O.moment out.new) (node_lines nodes.now) result }
     ensures fits { IfOk result (λ _. AllByRecursion spec.NodeFits nodes.now) }
 {
+    let mut held = Held::new();
     for node in nodes {
-        if let Err(error) = put_line(out, node) {
+        if let Err(error) = put_or_hold(out, &mut held, node) {
             return Err(error);
         }
     }
-    Ok(())
+    put_all(out, held.bytes())
 }
 
 /// Writes the text of a derivation, version 1: the lines `(derivation` and `(tree`, each node on a line of its own with single spaces, as `(unit 2 1)` or `(clash (sign 2))`, and two lines `)`. Each line ends with a line feed. Lemmas are not written; a derivation that can be written down has none.
 ///
-/// The text goes to the sink as it is made: no copy of it is kept, and no memory is taken. With an error a front of the text was written, and not all of it: [`WriteError::Sink`](PutError::Sink) where the last write failed, which comes only where the sink's count of faults rose in this call or stands at its end, and [`WriteError::Memory`](PutError::Memory) where the sink wanted memory.
+/// Lines go to the sink many at a time, out of a buffer of 1,024 bytes on the stack; no memory is taken. With an error a front of the text was written, and not all of it: [`WriteError::Sink`](PutError::Sink) where the last write failed, which comes only where the sink's count of faults rose in this call or stands at its end, and [`WriteError::Memory`](PutError::Memory) where the sink wanted memory.
 pub fn write<O: Sink>(derivation: &Derivation, out: &mut O) -> Result<(), PutError>
     // The whole text, or a front of it with an error.
     ensures put { PutGives (O.moment out.old) (O.moment out.new) (text_of derivation.now) result }
