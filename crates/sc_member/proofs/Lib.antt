@@ -1,0 +1,7 @@
+mod Noting
+mod Adding
+mod Trying
+mod Lists
+mod OfKinds
+mod Complete
+mod Going

@@ -1,0 +1,3 @@
+pub mod Memberships
+pub mod Notes
+pub mod Candidates
