@@ -19,7 +19,7 @@ use Rattle.sc_deriv.specs.declared.derivation.Derivation.{Derivation}
 use Rattle.sc_deriv_text.specs.Sexpr.{Sexpr, Atom, Nil, Cons, list_of, plain, plains, tokens, tokens_of}
 use Rattle.sc_deriv_text.specs.Spelling.{name_expr, Part, part_expr, node_part, node_exprs, derivation_expr}
 use Rattle.sc_deriv_text.specs.Reading.{derivation_in}
-use Rattle.sc_deriv_text.specs.Laws.{TextsReadBack}
+use Rattle.sc_deriv_text.specs.Laws.{TextsReadBack, TokensReadBack}
 use Rattle.sc_deriv_text.specs.Text.{text_of}
 use Rattle.sc_deriv_text.proofs.Again.{reads_again}
 use Rattle.sc_deriv_text.proofs.TextTokens.{texts_have_tokens}
@@ -208,9 +208,12 @@ same true (Cons t ts) (Cons u us) xs ys p q e =
 same_expr : (a b : Sexpr) → IsProper false a → IsProper false b → tokens_of a ≡ tokens_of b → a ≡ b
 same_expr a b p q e = (same false a b [] [] p q (ap (λ (t : List Lexeme). t ++ []) e)).0
 
-pub texts_read_back : TextsReadBack
-texts_read_back d s p line tree ts =
-    let found = tokens_read (text_of d) 0 line (marks tree) ts in
-    let told = (one true (text_of d) (map lexeme_of (marks tree)) (tokens_of (derivation_expr d)) Whole Whole found.0 (texts_have_tokens d s p)).0 in
+pub tokens_read_back : TokensReadBack
+tokens_read_back d s p text line tree reads ts =
+    let found = tokens_read text 0 line (marks tree) ts in
+    let told = (one true text (map lexeme_of (marks tree)) (tokens_of (derivation_expr d)) Whole Whole found.0 reads).0 in
     let is : plain (shape tree) ≡ derivation_expr d = same_expr (plain (shape tree)) (derivation_expr d) (shape_proper (shape tree) found.1) (derivation_proper d) (sym (shape_tokens (shape tree)) ∙ told) in
     ap derivation_in is ∙ reads_again d s p
+
+pub texts_read_back : TextsReadBack
+texts_read_back d s p line tree ts = tokens_read_back d s p (text_of d) line tree (texts_have_tokens d s p) ts

@@ -1,5 +1,5 @@
 -- The text of a derivation has the tokens of its expression.
-use Rattle.std.proofs.Common.{◌≡◌, ℕ, ◌<◌, ◌^◌, Bool, true, false, List, [], ◌∷◌, ◌++◌, refl, sym, subst, ◌∙◌, arith, append_assoc, append-nil}
+use Rattle.std.proofs.Common.{◌≡◌, ℕ, ◌<◌, ◌^◌, Bool, true, false, List, [], ◌∷◌, ◌++◌, refl, sym, ap, subst, ◌∙◌, arith, append_assoc, append-nil}
 use Rattle.std.specs.Prelude.{codes, decimal}
 use Rattle.std.specs.List.{AllByRecursion, list_all}
 use Rattle.std.proofs.lemmas.Bool.{and_parts}
@@ -23,7 +23,8 @@ use Rattle.sc_deriv.specs.declared.derivation.Step.TheVariants.{Plain}
 use Rattle.sc_deriv.specs.declared.derivation.Closing.TheVariants as closings
 use Rattle.sc_deriv.specs.declared.derivation.Node.{Node}
 use Rattle.sc_deriv.specs.declared.derivation.Node.TheVariants as nodes
-use Rattle.sc_deriv.specs.Spelling.{is_node, are_nodes, is_name, has_plus}
+use Rattle.sc_deriv.specs.Spelling.{is_node, are_nodes, is_name, has_plus, IsSpelt}
+use Rattle.sc_deriv.specs.declared.derivation.Derivation.{Derivation}
 use Rattle.sc_deriv_text.specs.declared.head.OneHead.TheVariants as Ones
 use Rattle.sc_deriv_text.specs.declared.head.TwoHead.TheVariants as Twos
 use Rattle.sc_deriv_text.specs.declared.head.ThreeHead.TheVariants as Threes
@@ -33,10 +34,10 @@ use Rattle.sc_deriv_text.specs.declared.head.NameHead.{NameHead}
 use Rattle.sc_deriv_text.specs.declared.head.NameHead.TheVariants as kinds
 use Rattle.sc_deriv_text.specs.Words.{head_word, name_word}
 use Rattle.sc_deriv_text.specs.Sexpr.{Sexpr, Atom, Nil, Cons, list_of, printed, tokens, tokens_of, bytes_of}
-use Rattle.sc_deriv_text.specs.Spelling.{cube_bytes, name_expr, Part, part_expr, step_part, node_part, node_expr, node_exprs, tree_expr, derivation_expr, NameFits, PartFits, NodeFits}
+use Rattle.sc_deriv_text.specs.Spelling.{cube_bytes, name_expr, Part, part_expr, step_part, node_part, node_expr, node_exprs, tree_expr, derivation_expr, NameFits, PartFits, NodeFits, Fits}
 use Rattle.sc_deriv_text.specs.Reading.{step}
-use Rattle.sc_deriv_text.specs.Text.{node_lines, tree_text, text_of}
-use Rattle.sc_deriv_text.specs.Laws.{TextsHaveTokens}
+use Rattle.sc_deriv_text.specs.Text.{item_of, node_lines, text_of, tree_item, tree_text}
+use Rattle.sc_deriv_text.specs.Laws.{ItemsHaveTokens, TextsHaveTokens}
 
 -- each token of the expression stands at the front of its bytes, wherever no byte of a symbol follows
 abbrev pub IsToken : Lexeme → Type 0
@@ -187,24 +188,39 @@ lines_begin (n ∷ ns) p e rest =
 ended : Reads true (10 ∷ []) [] Whole
 ended = (are_passed_over.white true 10 [] refl).0 ∙ are_passed_over.nothing true
 
-tree_begins : (ns : List Node) → AllByRecursion NodeFits ns → are_nodes ns ≡ true → Begins true (tree_text ns) (tokens_of (tree_expr ns)) (10 ∷ [])
-tree_begins ns p e =
-    let close : List ℕ = 10 ∷ 41 ∷ 10 ∷ [] in
+-- what follows the item stands behind its last parenthesis
+behind_item : (ns : List Node) (rest : List ℕ) → tree_item ns ++ rest ≡ codes "(derivation\n(tree\n" ++ (node_lines ns ++ (41 ∷ 10 ∷ 41 ∷ rest))
+behind_item ns rest = ap (λ (t : List ℕ). codes "(derivation\n(tree\n" ++ t) (append_assoc (node_lines ns) (41 ∷ 10 ∷ 41 ∷ []) rest)
+
+tree_begins : (ns : List Node) → AllByRecursion NodeFits ns → are_nodes ns ≡ true → (rest : List ℕ) → Begins true (codes "(derivation\n(tree\n" ++ (node_lines ns ++ (41 ∷ 10 ∷ 41 ∷ rest))) (tokens_of (tree_expr ns)) rest
+tree_begins ns p e rest =
+    let close : List ℕ = 10 ∷ 41 ∷ rest in
     let inner : List ℕ = 10 ∷ (node_lines ns ++ (41 ∷ close)) in
     let inside : List Lexeme = tokens true (list_of (node_exprs ns)) in
     let lines : Begins true inner inside close = lines_begin ns p e close in
     let word : Begins true (codes "tree" ++ inner) (Word (codes "tree") ∷ inside) close = and_then (codes "tree" ++ inner) inner close (Word (codes "tree")) inside (bare (codes "tree") inner tree_simple (line_after (node_lines ns ++ (41 ∷ close)))) lines in
     let tree : Begins true (40 ∷ (codes "tree" ++ inner)) (Left ∷ Word (codes "tree") ∷ inside) close = and_then (40 ∷ (codes "tree" ++ inner)) (codes "tree" ++ inner) close Left (Word (codes "tree") ∷ inside) (left (codes "tree" ++ inner)) word in
-    let last : Begins true close (Right ∷ []) (10 ∷ []) = white 10 (41 ∷ 10 ∷ []) (10 ∷ []) (Right ∷ []) refl tt (right (10 ∷ [])) in
-    let both : Begins true (40 ∷ (codes "tree" ++ inner)) ((Left ∷ Word (codes "tree") ∷ inside) ++ (Right ∷ [])) (10 ∷ []) = Begins-then true (Left ∷ Word (codes "tree") ∷ inside) (Right ∷ []) (40 ∷ (codes "tree" ++ inner)) close (10 ∷ []) tree last in
+    let last : Begins true close (Right ∷ []) rest = white 10 (41 ∷ rest) rest (Right ∷ []) refl tt (right rest) in
+    let both : Begins true (40 ∷ (codes "tree" ++ inner)) ((Left ∷ Word (codes "tree") ∷ inside) ++ (Right ∷ [])) rest = Begins-then true (Left ∷ Word (codes "tree") ∷ inside) (Right ∷ []) (40 ∷ (codes "tree" ++ inner)) close rest tree last in
     let body : List ℕ = 10 ∷ 40 ∷ (codes "tree" ++ inner) in
-    let below : Begins true body ((Left ∷ Word (codes "tree") ∷ inside) ++ (Right ∷ [])) (10 ∷ []) = white 10 (40 ∷ (codes "tree" ++ inner)) (10 ∷ []) ((Left ∷ Word (codes "tree") ∷ inside) ++ (Right ∷ [])) refl tt both in
-    let head : Begins true (codes "derivation" ++ body) (Word (codes "derivation") ∷ ((Left ∷ Word (codes "tree") ∷ inside) ++ (Right ∷ []))) (10 ∷ []) =
-    and_then (codes "derivation" ++ body) body (10 ∷ []) (Word (codes "derivation")) ((Left ∷ Word (codes "tree") ∷ inside) ++ (Right ∷ [])) (bare (codes "derivation") body derivation_simple (line_after (40 ∷ (codes "tree" ++ inner)))) below in
-    and_then (40 ∷ (codes "derivation" ++ body)) (codes "derivation" ++ body) (10 ∷ []) Left (Word (codes "derivation") ∷ ((Left ∷ Word (codes "tree") ∷ inside) ++ (Right ∷ []))) (left (codes "derivation" ++ body)) head
+    let below : Begins true body ((Left ∷ Word (codes "tree") ∷ inside) ++ (Right ∷ [])) rest = white 10 (40 ∷ (codes "tree" ++ inner)) rest ((Left ∷ Word (codes "tree") ∷ inside) ++ (Right ∷ [])) refl tt both in
+    let head : Begins true (codes "derivation" ++ body) (Word (codes "derivation") ∷ ((Left ∷ Word (codes "tree") ∷ inside) ++ (Right ∷ []))) rest =
+    and_then (codes "derivation" ++ body) body rest (Word (codes "derivation")) ((Left ∷ Word (codes "tree") ∷ inside) ++ (Right ∷ [])) (bare (codes "derivation") body derivation_simple (line_after (40 ∷ (codes "tree" ++ inner)))) below in
+    and_then (40 ∷ (codes "derivation" ++ body)) (codes "derivation" ++ body) rest Left (Word (codes "derivation") ∷ ((Left ∷ Word (codes "tree") ∷ inside) ++ (Right ∷ []))) (left (codes "derivation" ++ body)) head
 
 pub texts_have_tokens : TextsHaveTokens
 unfolding text_of
 texts_have_tokens d s p =
     subst (λ (ts : List Lexeme). Reads true (tree_text d.nodes) ts Whole) (append-nil (tokens_of (derivation_expr d)))
-    (Reads-then true (tokens_of (derivation_expr d)) [] Whole (tree_text d.nodes) (10 ∷ []) (tree_begins d.nodes p s.names) ended)
+    (Reads-then true (tokens_of (derivation_expr d)) [] Whole (tree_text d.nodes) (10 ∷ []) (tree_begins d.nodes p s.names (10 ∷ [])) ended)
+
+item_ends : (d : Derivation) → text_of d ≡ item_of d ++ 10 ∷ []
+unfolding text_of item_of
+item_ends d = sym (behind_item d.nodes (10 ∷ []))
+
+item_begins : (d : Derivation) → IsSpelt d → Fits d → (rest : List ℕ) → Begins true (item_of d ++ rest) (tokens_of (derivation_expr d)) rest
+unfolding item_of
+item_begins d s p rest = subst (λ (t : List ℕ). Begins true t (tokens_of (derivation_expr d)) rest) (sym (behind_item d.nodes rest)) (tree_begins d.nodes p s.names rest)
+
+pub items_have_tokens : ItemsHaveTokens
+items_have_tokens d = (item_ends d, item_begins d)

@@ -23,6 +23,13 @@ node_lines (n ∷ ns) = node_line n ++ node_lines ns
 abbrev pub tree_text : List Node → List ℕ
 tree_text ns = codes "(derivation\n(tree\n" ++ (node_lines ns ++ codes ")\n)\n")
 
+-- the same up to the last parenthesis
+abbrev pub tree_item : List Node → List ℕ
+tree_item ns = codes "(derivation\n(tree\n" ++ (node_lines ns ++ codes ")\n)")
+
+unfoldable pub item_of : Derivation → List ℕ
+item_of d = tree_item d.nodes
+
 -- the bytes of the text of a derivation without lemmas, with its last line feed
 unfoldable pub text_of : Derivation → List ℕ
 text_of d = tree_text d.nodes

@@ -16,7 +16,10 @@ mod tokens;
 mod writing;
 
 pub use errors::TextError;
-pub use laws::{derivations_read_exactly, texts_have_tokens, texts_read_back};
+pub use laws::{
+    derivations_read_exactly, items_have_tokens, texts_have_tokens, texts_read_back,
+    tokens_read_back,
+};
 pub use lengths::length;
 pub use reading::read;
 pub use sc_io::PutError as WriteError;
