@@ -2,7 +2,7 @@
 
 ghost use Rattle.std.specs.Prelude.{◌≡◌, pos, negsuc, [], ◌∷◌, IfOk};
 ghost use Rattle.sc_terms.specs.declared.atoms.Atom.TheVariants as atoms;
-ghost use Rattle.sc_terms.specs.Bank.{IsFormulaOf, Begins};
+ghost use Rattle.sc_terms.specs.Bank.{IsFormulaOf, IsSetOf, Begins};
 
 use super::*;
 use sc_sorts::{may_hold, members_sort, sets_alike};
@@ -104,6 +104,29 @@ fn held(alloc: Global, bank: &mut Bank) -> Result<u32, Fail>
     Ok(bank.formula(Formula::Member(element, set))?)
 }
 
+/// A set constant without the members of the empty set.
+fn left_over(bank: &mut Bank) -> Result<u32, BankError>
+    ensures set { IfOk result (IsSetOf bank.new) }
+    ensures begins { Begins bank.old bank.new }
+{
+    let empty = bank.set(SetTerm::Empty(Sort::SetNamed(1)))?;
+    let set = bank.set(SetTerm::Const(3, Sort::SetNamed(1)))?;
+    bank.set(SetTerm::Minus(set, empty))
+}
+
+/// An element is not in the union of the set of another one with what is left of a set.
+fn nested(bank: &mut Bank) -> Result<u32, BankError>
+    ensures { IfOk result (IsFormulaOf bank.new) }
+{
+    let inner = bank.element(Element::Const(4, Sort::Named(1)))?;
+    let single = bank.set(SetTerm::Single(inner))?;
+    let minus = left_over(bank)?;
+    let union = bank.set(SetTerm::Union(single, minus))?;
+    let outer = bank.element(Element::Const(5, Sort::Named(1)))?;
+    let member = bank.formula(Formula::Member(outer, union))?;
+    bank.formula(Formula::Not(member))
+}
+
 /// Each node has one number, a formula before its parts.
 fn check_literals(rt: &impl Abort, problem: &Problem) -> bool {
     assert!(rt; problem.roots() == [1, 2, 1].as_slice());
@@ -142,6 +165,17 @@ fn check_pairs(rt: &impl Abort, problem: &Problem) -> bool {
     assert!(rt; matches!(problem.find_element(1), Some(Element::Diff(1, 2))));
     assert!(rt; problem.diff_of(2, 3).is_none());
     matches!(problem.find_element(2), Some(Element::Diff(1, 3)))
+}
+
+/// The first argument's parts have numbers before the second argument, and elements have numbers of their own.
+fn check_nested(rt: &impl Abort, problem: &Problem) -> bool {
+    assert!(rt; matches!(problem.find_formula(2), Some(Formula::Member(1, 1))));
+    assert!(rt; matches!(problem.find_set(1), Some(SetTerm::Union(2, 3))));
+    assert!(rt; matches!(problem.find_set(2), Some(SetTerm::Single(2))));
+    assert!(rt; matches!(problem.find_set(3), Some(SetTerm::Minus(4, 5))));
+    assert!(rt; matches!(problem.find_set(4), Some(SetTerm::Const(3, _))));
+    assert!(rt; matches!(problem.find_element(1), Some(Element::Const(5, _))));
+    matches!(problem.find_element(2), Some(Element::Const(4, _)))
 }
 
 /// Int constants and sets have numbers where a form names them.
@@ -190,6 +224,15 @@ fn pairs_have_elements_in_order(rt: HostRuntime) -> Result<(), Fail> {
     let formula = turned(&mut bank)?;
     let problem = prepare(rt.alloc(), &bank, &[formula])?;
     assert!(rt; check_pairs(&rt, &problem));
+    Ok(())
+}
+
+#[test]
+fn parts_have_numbers_after_their_node(rt: HostRuntime) -> Result<(), Fail> {
+    let mut bank = Bank::new(rt.alloc());
+    let formula = nested(&mut bank)?;
+    let problem = prepare(rt.alloc(), &bank, &[formula])?;
+    assert!(rt; check_nested(&rt, &problem));
     Ok(())
 }
 
