@@ -5,3 +5,4 @@ pub mod Sets
 pub mod Elements
 pub mod Meaning
 pub mod Joins
+pub mod Placed

@@ -1,6 +1,6 @@
 -- Loops' steps, with numbers as code that reads them has them.
-use Rattle.std.proofs.Common.{◌≡◌, ℕ, zero, suc, ◌+◌, ◌-◌, ◌<◌, ◌≤◌, ℤ, pos, ◌+ℤ◌, ◌≤ℤ◌, ◌<ℤ◌, List, [], ◌∷◌, ◌++◌, length, drop, get_or, refl, sym, ap, subst, ◌∙◌, arith, append_assoc, append-nil, Some, to_z, of_z, Bool, true, false, ◌&&◌, ◌||◌}
-use Rattle.std.specs.Prelude.{int_lt, int_le, slice_get, FitsSigned}
+use Rattle.std.proofs.Common.{◌≡◌, ℕ, zero, suc, ◌+◌, ◌-◌, ◌<◌, ◌≤◌, ℤ, pos, ◌+ℤ◌, ◌≤ℤ◌, ◌<ℤ◌, List, [], ◌∷◌, ◌++◌, length, drop, get_or, refl, sym, ap, subst, ◌∙◌, arith, append_assoc, append-nil, to_z, of_z, Bool, true, false, ◌&&◌, ◌||◌}
+use Rattle.std.specs.Prelude.{int_lt, int_le, FitsSigned}
 use Rattle.std.specs.Int.{w128}
 use Rattle.std.proofs.lemmas.Int.{ints, to_z-of_z}
 use Rattle.std.proofs.lemmas.Bool.Decides.{nat_tests}
@@ -10,10 +10,10 @@ use Rattle.std.specs.List.Sorted.{IsPartitionedBy, IsPartitionPoint}
 use Prim.Native.Nat.{zero-le}
 use Rattle.sc_base.specs.declared.span.Span.{Span}
 use Rattle.sc_base.specs.Integers.{lowest, highest}
-use Rattle.sc_base.specs.Spans.{contains_value, covers, width, members, IsSpan, AreApart, gap, gaps, first_values, later_values}
+use Rattle.sc_base.specs.Spans.{contains_value, covers, width, IsSpan, AreApart, gap, gaps, first_values, later_values}
 use Rattle.sc_base.proofs.Integers.{all_weaker}
 use Rattle.sc_runs.proofs.Covered.{covers_below}
-use Rattle.sc_runs.proofs.Steps.{IsSpan-at, gaps_more, gaps_end, nth_here, step_fits}
+use Rattle.sc_runs.proofs.Steps.{IsSpan-at, gaps_more, gaps_end, step_fits}
 
 -- a number that went to its bits and back
 abbrev pub read : ℤ → ℤ
@@ -59,15 +59,6 @@ gaps_last out new next ss all i d a l e f h =
     let low : read (get_or ss i d).low ≡ (get_or ss i d).low = read_low (get_or ss i d) s in
     let high : read (get_or ss i d).high ≡ (get_or ss i d).high = read_high (get_or ss i d) s in
     gaps_end out new next ss all i d a l (e ∙ ap (λ z. out ++ gap next z) low) (λ k. f (subst (λ z. FitsSigned w128 (z +ℤ pos 1)) (sym high) k)) h
-
-pub nth_found : (ss : List Span) (i k k0 : ℕ) (d t : Span) → AreApart ss → i < length ss → k ≤ width (get_or ss i d)
-    → t ≡ record { low = (get_or ss i d).low +ℤ pos k; high = (get_or ss i d).high }
-    → slice_get (members (drop i ss)) k ≡ slice_get (members ss) k0 → Some (read t.low) ≡ slice_get (members ss) k0
-nth_found ss i k k0 d t a l m e h =
-    let s : IsSpan (get_or ss i d) = IsSpan-at ss i d a l in
-    let is : t.low ≡ (get_or ss i d).low +ℤ pos k = ap (λ (u : Span). u.low) e in
-    let fits : FitsSigned w128 ((get_or ss i d).low +ℤ pos k) = step_fits (get_or ss i d).low (get_or ss i d).high k s.lower s.ordered s.upper m in
-    ap (λ z. Some (read z)) is ∙ (ap Some (read_fit ((get_or ss i d).low +ℤ pos k) fits) ∙ (sym (nth_here ss i k d l m) ∙ h))
 
 -- ---- the first values, and those after them
 first_zero : (ss : List Span) → first_values 0 ss ≡ []

@@ -1,6 +1,6 @@
 -- The steps of loops over spans.
-use Rattle.std.proofs.Common.{◌≡◌, ℕ, zero, suc, ◌+◌, ◌-◌, ◌<◌, ◌≤◌, true, false, ℤ, pos, ◌+ℤ◌, ◌-ℤ◌, ◌<ℤ◌, ◌≤ℤ◌, List, [], ◌∷◌, ◌++◌, length, drop, get_or, refl, sym, ap, ◌∙◌, arith, length-append, append_assoc, append-nil, Some, None}
-use Rattle.std.specs.Prelude.{int_lt, unsigned_abs, if◌then◌else◌, slice_get, FitsSigned}
+use Rattle.std.proofs.Common.{◌≡◌, ℕ, zero, suc, ◌+◌, ◌<◌, ◌≤◌, true, false, ℤ, pos, ◌+ℤ◌, ◌-ℤ◌, ◌<ℤ◌, ◌≤ℤ◌, List, [], ◌∷◌, ◌++◌, length, drop, get_or, refl, sym, ap, ◌∙◌, arith, length-append, append_assoc, append-nil}
+use Rattle.std.specs.Prelude.{int_lt, unsigned_abs, if◌then◌else◌, FitsSigned}
 use Rattle.std.specs.Int.{w128}
 use Rattle.std.specs.List.{AllByRecursion}
 use Rattle.std.proofs.lemmas.Int.{ints, by_lt_z}
@@ -148,33 +148,8 @@ upward-add a (suc m) n =
     let f : (a +ℤ pos 1) +ℤ pos m ≡ a +ℤ pos (suc m) = omega (arith, ints) in
     ap (upward a) e ∙ ap (λ xs. a ∷ xs) (upward-add (a +ℤ pos 1) m n ∙ ap (λ z. upward (a +ℤ pos 1) m ++ upward z n) f)
 
--- the number at a place
-get-upward : (a : ℤ) (n k : ℕ) (rest : List ℤ) → k < n → slice_get (upward a n ++ rest) k ≡ Some (a +ℤ pos k)
-unfolding upward
-get-upward a zero k rest h = absurd (omega arith)
-get-upward a (suc n) zero rest h = ap Some (zero_more a) where
-  zero_more : (a : ℤ) → a ≡ a +ℤ pos 0
-  zero_more a = omega (arith, ints)
-get-upward a (suc n) (suc k) rest h = get-upward (a +ℤ pos 1) n k rest (omega arith) ∙ ap Some (one_more a k) where
-  one_more : (a : ℤ) (k : ℕ) → (a +ℤ pos 1) +ℤ pos k ≡ a +ℤ pos (suc k)
-  one_more a k = omega (arith, ints)
-
-get-past : (xs ys : List ℤ) (k n : ℕ) → length xs ≡ n → n ≤ k → slice_get (xs ++ ys) k ≡ slice_get ys (k - n)
-get-past [] ys k n e h = let z : k ≡ k - n = omega arith in ap (slice_get ys) z
-get-past (x ∷ xs) ys zero n e h = absurd (omega arith)
-get-past (x ∷ xs) ys (suc k) n e h = let z : k - length xs ≡ suc k - n = omega arith in get-past xs ys k (length xs) refl (omega arith) ∙ ap (slice_get ys) z
-
 pub members_at : (ss : List Span) (i : ℕ) (d : Span) → i < length ss → members (drop i ss) ≡ upward (get_or ss i d).low (width (get_or ss i d) + 1) ++ members (drop (i + 1) ss)
 members_at ss i d h = ap members (drop_more ss i d h)
-
-pub nth_here : (ss : List Span) (i k : ℕ) (d : Span) → i < length ss → k ≤ width (get_or ss i d) → slice_get (members (drop i ss)) k ≡ Some ((get_or ss i d).low +ℤ pos k)
-nth_here ss i k d h l = ap (λ xs. slice_get xs k) (members_at ss i d h) ∙ get-upward (get_or ss i d).low (width (get_or ss i d) + 1) k (members (drop (i + 1) ss)) (omega arith)
-
-pub nth_later : (ss : List Span) (i k : ℕ) (d : Span) → i < length ss → width (get_or ss i d) < k → slice_get (members (drop i ss)) k ≡ slice_get (members (drop (i + 1) ss)) (k - (width (get_or ss i d) + 1))
-nth_later ss i k d h l = ap (λ xs. slice_get xs k) (members_at ss i d h) ∙ get-past (upward (get_or ss i d).low (width (get_or ss i d) + 1)) (members (drop (i + 1) ss)) k (width (get_or ss i d) + 1) (length-upward (get_or ss i d).low (width (get_or ss i d) + 1)) (omega arith)
-
-pub nth_past : (ss : List Span) (i k : ℕ) → length ss ≤ i → slice_get (members (drop i ss)) k ≡ None
-nth_past ss i k h = ap (λ xs. slice_get (members xs) k) (drop_all i ss h)
 
 pub length-members_at : (ss : List Span) (i : ℕ) (d : Span) → i < length ss → length (members (drop i ss)) ≡ width (get_or ss i d) + 1 + length (members (drop (i + 1) ss))
 length-members_at ss i d h =

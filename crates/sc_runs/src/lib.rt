@@ -3,6 +3,7 @@
 
 mod error;
 pub mod laws;
+mod places;
 mod runs;
 mod spans;
 #[cfg(test)]

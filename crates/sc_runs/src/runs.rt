@@ -4,28 +4,31 @@ ghost use Rattle.sc_base.specs.Integers.{has_element, without, in_order, IsAscen
 ghost use Rattle.sc_base.specs.Spans.{width, members, AreApart};
 
 use crate::error::{FreshError, Memory, Wide};
-use crate::spans;
+use crate::{places, spans};
 use sc_base::Span;
 use std::alloc::Global;
 use std::marker::Model;
 
 /// A set of integers of 128 bits. Contracts see it as the ascending list of its values, each of which stands there once.
 ///
-/// It is kept as ascending runs, so a call takes time by the number of runs and not by that of the values.
+/// It is kept as ascending runs, each with the place of its last value, so a call takes time by the number of runs and not by that of the values. `has` and `nth` bisect the runs.
 #[derive(Debug, Drop)]
 pub struct Runs {
     spans: Vec<Span>,
+    /// The place of each run's last value; the set's least value is at 0. A place fits where a count of values may not: 2^128 itself has no `u128`.
+    lasts: Vec<u128>,
 }
 
 impl Model for Runs {
     ghost use Rattle.std.specs.Prelude.{List, ℤ};
-    ghost use Rattle.sc_base.specs.Spans.{members, AreApart};
+    ghost use Rattle.sc_base.specs.Spans.{members};
+    ghost use Rattle.sc_runs.specs.Places.{AreRuns};
 
     ghost Value = { List ℤ };
 
     ghost view = { λ r. members r.spans.items };
 
-    ghost invariant = { λ r. AreApart r.spans.items };
+    ghost invariant = { λ r. AreRuns r.spans.items r.lasts.items };
 }
 
 impl Runs {
@@ -35,7 +38,17 @@ impl Runs {
     {
         Runs {
             spans: Vec::new(alloc),
+            lasts: Vec::new(alloc),
         }
+    }
+
+    /// The set whose runs these are. `Err` where there was no memory.
+    fn with_runs(spans: Vec<Span>) -> Result<Runs, Memory>
+        requires { AreApart spans.items }
+        ensures { IfOk result (λ r. r ≡ members spans.items) }
+    {
+        let lasts = places::last_places(*spans.allocator(), spans.as_slice())?;
+        Ok(Runs { spans, lasts })
     }
 
     /// The numbers from `low` to `high`, both among them. `Err` where there was no memory.
@@ -44,7 +57,7 @@ impl Runs {
         ensures { IfOk result (λ r. r ≡ upward low (width (record { low = low; high = high }) + 1)) }
     {
         let spans = spans::single(alloc, Span { low, high })?;
-        Ok(Runs { spans })
+        Runs::with_runs(spans)
     }
 
     /// The set of the values of the spans, of which each ends at least two below the next one's start. `Err` where there was no memory.
@@ -53,7 +66,7 @@ impl Runs {
         ensures { IfOk result (λ r. r ≡ members spans.now) }
     {
         let spans = spans::copied(alloc, spans)?;
-        Ok(Runs { spans })
+        Runs::with_runs(spans)
     }
 
     /// The set's runs: ascending spans, of which each ends at least two below the next one's start. There is one such list of spans for each set.
@@ -71,7 +84,7 @@ impl Runs {
     {
         let alloc = *self.spans.allocator();
         let spans = spans::common(alloc, self.spans.as_slice(), other.spans.as_slice())?;
-        Ok(Runs { spans })
+        Runs::with_runs(spans)
     }
 
     /// The values of this set that are not in the other. `Err` where there was no memory.
@@ -81,7 +94,7 @@ impl Runs {
         let alloc = *self.spans.allocator();
         let outside = spans::gaps(alloc, other.spans.as_slice())?;
         let spans = spans::common(alloc, self.spans.as_slice(), outside.as_slice())?;
-        Ok(Runs { spans })
+        Runs::with_runs(spans)
     }
 
     /// The values that are in this set or in the other. `Err` where there was no memory.
@@ -90,7 +103,7 @@ impl Runs {
     {
         let alloc = *self.spans.allocator();
         let spans = spans::joined(alloc, self.spans.as_slice(), other.spans.as_slice())?;
-        Ok(Runs { spans })
+        Runs::with_runs(spans)
     }
 
     /// Whether `value` is in the set.
@@ -111,7 +124,7 @@ impl Runs {
     pub fn nth(&self, k: u128) -> Option<i128>
         ensures { result ≡ slice_get self.now k }
     {
-        spans::nth(self.spans.as_slice(), k)
+        places::nth(self.spans.as_slice(), self.lasts.as_slice(), k)
     }
 
     /// How many values the set has. `Wide` exactly where they are all the numbers of 128 bits: 2^128 itself has no `u128`.
@@ -128,7 +141,7 @@ impl Runs {
     {
         let alloc = *self.spans.allocator();
         let spans = spans::first_values(alloc, self.spans.as_slice(), count)?;
-        Ok(Runs { spans })
+        Runs::with_runs(spans)
     }
 
     /// All but the first `count` values.
@@ -137,7 +150,7 @@ impl Runs {
     {
         let alloc = *self.spans.allocator();
         let spans = spans::later_values(alloc, self.spans.as_slice(), count)?;
-        Ok(Runs { spans })
+        Runs::with_runs(spans)
     }
 
     /// The numbers from 0 on that are not in the set.

@@ -1,4 +1,4 @@
-ghost use Rattle.std.specs.Prelude.{◌≡◌, ◌+◌, [], ◌∷◌, ◌++◌, ◌-◌, ◌^◌, ◌<◌, ◌≤◌, length, drop, IfOk, OnOk, pos, ◌+ℤ◌, FitsSigned, slice_get, ℤ, ◌||◌, int_le};
+ghost use Rattle.std.specs.Prelude.{◌≡◌, ◌+◌, [], ◌∷◌, ◌++◌, ◌-◌, ◌^◌, ◌<◌, ◌≤◌, length, drop, IfOk, OnOk, pos, ◌+ℤ◌, FitsSigned, ℤ, ◌||◌, int_le};
 ghost use Rattle.std.specs.Result.{OkIff};
 ghost use Rattle.std.specs.Int.{w128};
 ghost use Rattle.sc_base.specs.Integers.{lowest};
@@ -10,7 +10,7 @@ use sc_base::Span;
 use std::alloc::{AllocError, Global};
 
 /// One less than the number of the span's values.
-fn width(span: Span) -> u128
+pub fn width(span: Span) -> u128
     ensures { result ≡ width span }
 {
     span.high.abs_diff(span.low)
@@ -35,7 +35,7 @@ pub fn copied(alloc: Global, spans: &[Span]) -> Result<Vec<Span>, AllocError>
 }
 
 /// `low + steps`.
-fn stepped(low: i128, steps: u128) -> i128
+pub fn stepped(low: i128, steps: u128) -> i128
     requires { FitsSigned w128 (low +ℤ pos steps) }
     ensures { result ≡ low +ℤ pos steps }
 {
@@ -221,22 +221,6 @@ pub fn count(spans: &[Span]) -> Result<u128, Wide>
         sum = whole;
     }
     Ok(sum)
-}
-
-/// The value that so many others precede.
-pub fn nth(spans: &[Span], k: u128) -> Option<i128>
-    requires { AreApart spans.now }
-    ensures { result ≡ slice_get (members spans.now) k }
-{
-    let mut left = k;
-    for span in spans {
-        let width = width(*span);
-        if left <= width {
-            return Some(back(*span, left).low);
-        }
-        left -= width + 1;
-    }
-    None
 }
 
 /// The first values of a span.

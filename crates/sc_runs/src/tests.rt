@@ -56,5 +56,15 @@ fn spans(rt: HostRuntime) -> Result<(), Fail> {
     let set = Runs::from_spans(rt.alloc(), &spans).expect(&rt, "memory");
     assert_eq!(rt; set.spans(), spans.as_slice());
     assert_eq!(rt; set.card(), Ok(5));
+    let rows = [
+        (0, Some(-7)),
+        (1, Some(-6)),
+        (2, Some(2)),
+        (4, Some(4)),
+        (5, None),
+    ];
+    for (place, value) in &rows {
+        assert_eq!(rt; set.nth(*place), *value);
+    }
     Ok(())
 }

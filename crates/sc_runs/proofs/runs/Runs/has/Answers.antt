@@ -6,4 +6,4 @@ use Rattle.sc_runs.proofs.runs.Runs.has.Goals as goal
 
 pub returns : goal.returns
 returns c =
-    rw (c.covers.ensures, to_z-of_z w128 c.args.value c.ranges.value, c.as_slice.ensures.value, ← c.self.view_is) (sym (has_element-members _ c.self.invariant c.args.value))
+    rw (c.covers.ensures, to_z-of_z w128 c.args.value c.ranges.value, c.as_slice.ensures.value, ← c.self.view_is) (sym (has_element-members _ c.self.invariant.apart c.args.value))

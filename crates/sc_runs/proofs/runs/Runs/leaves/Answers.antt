@@ -14,12 +14,12 @@ none_left count inside free e h = grind (arith, nat_tests)
 
 pub returns-else-count-eq0 : goal.returns-else-count-eq0
 returns-else-count-eq0 c =
-    let all : length (fresh_values c.args.self.now) + length c.args.self.now ≡ 2 ^ 128 = rw (← c.self.view_is) (length-outside _ c.self.invariant) in
+    let all : length (fresh_values c.args.self.now) + length c.args.self.now ≡ 2 ^ 128 = rw (← c.self.view_is) (length-outside _ c.self.invariant.apart) in
     let is : length (members c.as_slice.result.now) ≡ length c.args.self.now = ap (λ ss. length (members ss)) c.as_slice.ensures.value ∙ ap length c.self.view_is in
     some_left c.args.count c.in-Ok.inside _ (rw (c.in-Ok.ensures.1, is) all) (omega (arith, c.in-Ok.ensures)) c.if-count-eq0.false
 
 pub returns-in-Err : goal.returns-in-Err
 returns-in-Err c =
-    let all : length (fresh_values c.args.self.now) + length c.args.self.now ≡ 2 ^ 128 = rw (← c.self.view_is) (length-outside _ c.self.invariant) in
+    let all : length (fresh_values c.args.self.now) + length c.args.self.now ≡ 2 ^ 128 = rw (← c.self.view_is) (length-outside _ c.self.invariant.apart) in
     let is : length (members c.as_slice.result.now) ≡ length c.args.self.now = ap (λ ss. length (members ss)) c.as_slice.ensures.value ∙ ap length c.self.view_is in
     none_left c.args.count (length c.args.self.now) _ all (λ l. c.in-Err.ensures (omega (arith, is, l)))

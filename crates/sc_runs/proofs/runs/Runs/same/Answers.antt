@@ -9,5 +9,5 @@ returns c =
     let left = c.as_slice.ensures.value in
     let right = c.as_slice-2.ensures.value in (
       λ t. sym c.self.view_is ∙ (ap members (sym left ∙ (d.0 t ∙ right)) ∙ c.other.view_is),
-      λ e. d.1 (left ∙ (same_spans _ _ c.self.invariant c.other.invariant (c.self.view_is ∙ (e ∙ sym c.other.view_is)) ∙ sym right)),
+      λ e. d.1 (left ∙ (same_spans _ _ c.self.invariant.apart c.other.invariant.apart (c.self.view_is ∙ (e ∙ sym c.other.view_is)) ∙ sym right)),
     )
