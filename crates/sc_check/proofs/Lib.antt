@@ -1,0 +1,5 @@
+pub mod Feeding
+pub mod Following
+pub mod Tallying
+pub mod Checking
+pub mod Soundness

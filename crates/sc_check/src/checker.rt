@@ -1,0 +1,56 @@
+//! Checking an input.
+
+ghost use Rattle.std.specs.Prelude.{◌≡◌};
+ghost use Rattle.sc_check.specs.Ends as ends;
+ghost use Rattle.sc_check.specs.Following as whole;
+ghost use Rattle.sc_check.specs.Ends.{at_moment, CheckEnds};
+
+use crate::ending::Ending;
+use crate::follow::{Followed, follow};
+use crate::gather::{GatherError, MOST_MORE, gather};
+use crate::judge::{judge_all, refuse};
+use sc_io::{Sink, Source};
+use sc_session::Session;
+use sc_sexpr::Splitter;
+use std::alloc::Global;
+
+/// Checks the text that a splitter has.
+fn check_text<O: Sink>(alloc: Global, splitter: &mut Splitter, out: &mut O) -> Ending
+    requires { whole.IsFresh splitter.old }
+    ensures { ends.JudgeGives splitter.old (O.moment out.old) (O.moment out.new) result }
+{
+    let mut session = Session::new(alloc);
+    match follow(alloc, splitter, &mut session) {
+        Ok(Followed::Left(asked)) => {
+            splitter.go_on(MOST_MORE as u64);
+            judge_all(alloc, splitter, &session, &asked, out)
+        }
+        Ok(Followed::Stopped(line)) => refuse(line.as_slice(), out),
+        Ok(Followed::Unended) => Ending::Nothing,
+        Err(_) => Ending::Memory,
+    }
+}
+
+/// Checks the derivations that follow a script in the input that the source gives, and writes a
+/// line for each to the sink.
+///
+/// The input is read to its end before the first command is done. A script may have 16,777,216
+/// bytes, and 2^60 may follow its `(exit)`. The commands of the script are done up to `(exit)`
+/// without solving; the first error ends the check with its line. Among the items behind it, a list
+/// headed by the bare word `derivation` is a derivation, and all else is passed over. The k-th
+/// derivation belongs to the k-th `(get-proof)`, and is checked against the assertions of its
+/// check-sat. Its line is `derivation k: accepted`, `derivation k: refused at node
+/// n: CODE text`, or `derivation k: refused: no get-proof`. A fault of the text behind the script is
+/// written as an error line, and ends the check.
+pub fn check_input<S: Source, O: Sink>(alloc: Global, source: &mut S, out: &mut O) -> Ending
+    ensures { CheckEnds (at_moment (S.moment source.old) (O.moment out.old)) (at_moment (S.moment source.new) (O.moment out.new)) result }
+{
+    match gather(alloc, source) {
+        Ok(mut splitter) => {
+            let ending = check_text(alloc, &mut splitter, out);
+            return ending;
+        }
+        Err(GatherError::Failed) => return Ending::ReadFault,
+        Err(GatherError::Memory) => return Ending::Memory,
+    }
+}

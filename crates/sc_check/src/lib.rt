@@ -1,0 +1,24 @@
+//! Checking the derivations of a transcript against its script, from the bytes of a source to the
+//! bytes of a sink.
+//!
+//! [`check_input`] does the commands of a script up to `(exit)` without solving, reads what follows
+//! it, and writes a line for each derivation there. `CheckEnds` of `specs/Ends.antt` says how it
+//! ends, and why; `tally` of `specs/Lines.antt` which lines there are. Where a derivation is
+//! accepted, its assertions are unsatisfiable ([`accepted_derivations_refute`]).
+#![tactic(auto)]
+
+mod checker;
+mod ending;
+mod finding;
+mod follow;
+mod gather;
+mod judge;
+mod laws;
+
+pub use checker::check_input;
+pub use ending::Ending;
+pub use finding::Finding;
+pub use laws::accepted_derivations_refute;
+
+#[cfg(test)]
+mod tests;
