@@ -10,6 +10,9 @@ use Rattle.sc_tree.specs.declared.verdict.Verdict.{Verdict}
 use Rattle.sc_solve.specs.declared.ending.Ending.{Ending}
 use Rattle.sc_solve.specs.declared.ending.Ending.TheVariants as ending
 use Rattle.sc_solve.specs.Ends.{Moment, SolveEnds}
+use Rattle.sc_check.specs.declared.ending.Ending.{Ending as CheckEnding}
+use Rattle.sc_check.specs.declared.ending.Ending.TheVariants as checks
+use Rattle.sc_check.specs.Ends as check
 use Rattle.setcard.specs.Words.{usage_line}
 
 -- the steps on each branch of a check-sat
@@ -30,6 +33,23 @@ pub record IsSolving (budget : ℕ) (before after : Moment) (code : ℕ) (verdic
   pub ending : Ending
   pub status : code ≡ status_of ending
   pub ends : SolveEnds budget before after ending verdicts
+
+-- the exit status of a run that checks
+abbrev pub check_status : CheckEnding → ℕ
+check_status checks.Done = 0
+check_status checks.Error = 1
+check_status checks.ReadFault = 3
+check_status checks.WriteFault = 4
+check_status checks.Memory = 5
+check_status checks.Refused = 6
+check_status checks.Nothing = 7
+
+-- A run that checks ended with this status, and this is why; there are no verdicts.
+pub record IsChecking (before after : check.Moment) (code : ℕ) (verdicts : List Verdict) : Type 0 where
+  pub ending : CheckEnding
+  pub status : code ≡ check_status ending
+  pub ends : check.CheckEnds before after ending
+  pub none : verdicts ≡ []
 
 -- the exit status of a run whose words were refused
 abbrev pub usage_status : Result (Unit {0}) PutError → ℕ

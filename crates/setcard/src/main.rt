@@ -2,13 +2,17 @@
 //!
 //! `setcard solve` reads a script in the language of SMT-LIB 2.6 from standard input and writes
 //! its responses to standard output. It knows `set-logic`, `set-info`, `declare-sort`,
-//! `declare-const`, `declare-fun` without arguments, `assert`, `check-sat`, `echo` and `exit`, over
-//! Booleans, declared sorts and their finite sets. An error ends the script, as
+//! `declare-const`, `declare-fun` without arguments, `assert`, `check-sat`, `get-proof`, `echo` and
+//! `exit`, over Booleans, declared sorts and their finite sets. An error ends the script, as
 //! `(error "line 3: E6 unknown symbol")`. A script has at most 16,777,216 bytes.
 //!
-//! The exit status is 0 where the script was done, 1 where an error was printed, 2 where the words
-//! of the command line were refused, 3 after a read fault, 4 after a write fault, and 5 for want of
-//! memory.
+//! `setcard check` reads a script up to its `(exit)`, and behind it what `setcard solve` wrote for
+//! it. It writes a line for each derivation there: `derivation 1: accepted`, or why it is refused.
+//!
+//! The exit status is 0 where the script was done or each derivation is accepted, 1 where an error
+//! was printed, 2 where the words of the command line were refused, 3 after a read fault, 4 after a
+//! write fault, 5 for want of memory, 6 where a derivation is refused, and 7 where there is no
+//! derivation to check.
 #![tactic(auto)]
 
 mod ended;
@@ -22,6 +26,8 @@ use sc_io::{ReaderSource, WriterSink};
 use std::process::ExitCode;
 use std::{env, io};
 
+#[cfg(test)]
+mod check_tests;
 #[cfg(test)]
 mod set_tests;
 #[cfg(test)]

@@ -1,15 +1,17 @@
 //! The program over any source and sink.
 
-ghost use Rattle.std.specs.Prelude.{◌≡◌, ◌≤◌, ◌^◌, ℕ, map, string_bytes, Some, None};
+ghost use Rattle.std.specs.Prelude.{◌≡◌, ◌≤◌, ◌^◌, ℕ, true, false, map, string_bytes, Some, None};
+ghost use Rattle.sc_check.specs.Ends as check;
 ghost use Rattle.sc_solve.specs.Ends.{at_moment};
 ghost use Rattle.sc_tree.specs.Budgets.{IsBudget};
 ghost use Rattle.setcard.specs.Words as command;
 ghost use Rattle.setcard.specs.Ends as ends;
-ghost use Rattle.setcard.specs.Ends.{IsSolving, IsRefusing};
+ghost use Rattle.setcard.specs.Ends.{IsSolving, IsChecking, IsRefusing};
 
 use crate::ended::Ended;
 use crate::gate::Gate;
-use crate::words::{steps_of, usage_line};
+use crate::words::{is_check, steps_of, usage_line};
+use sc_check::{Ending as CheckEnd, check_input};
 use sc_io::{PutError, Sink, Source, put_all};
 use sc_session::Verdicts;
 use sc_solve::{Ending, solve};
@@ -76,6 +78,39 @@ pub fn solve_run<R, S: Source, O: Sink, G: Gate>(
     }
 }
 
+/// The exit status of a run that checks.
+fn check_status(ending: CheckEnd) -> u8
+    ensures { result ≡ ends.check_status ending }
+{
+    match ending {
+        CheckEnd::Done => 0,
+        CheckEnd::Error => 1,
+        CheckEnd::ReadFault => 3,
+        CheckEnd::WriteFault => 4,
+        CheckEnd::Memory => 5,
+        CheckEnd::Refused => 6,
+        CheckEnd::Nothing => 7,
+    }
+}
+
+/// Checks the derivations that follow a script in the input that the source gives, as
+/// [`check_input`] does, and writes a line for each to the sink. `alloc` gives all memory.
+///
+/// The status is 0 where each derivation is accepted; 1 where the last line is an error of the
+/// script or of the text behind it; 3 where the source failed, and then nothing was written; 4
+/// where the sink failed, and then nothing more was written; 5 where memory was refused, here or in
+/// the sink; 6 where a derivation is refused and no line is an error; and 7 where no derivation
+/// follows `(exit)` and no line is an error. There are no verdicts.
+pub fn check_run<S: Source, O: Sink>(alloc: Global, source: &mut S, out: &mut O) -> Ended
+    ensures { IsChecking (check.at_moment (S.moment source.old) (O.moment out.old)) (check.at_moment (S.moment source.new) (O.moment out.new)) result.status result.verdicts }
+{
+    let ending = check_input(alloc, source, out);
+    Ended {
+        status: check_status(ending),
+        verdicts: Verdicts::new(alloc),
+    }
+}
+
 /// Writes how the program is called.
 fn show_usage<O: Sink>(alloc: Global, out: &mut O) -> Ended
     ensures { IsRefusing (O.moment out.old) (O.moment out.new) result.status result.verdicts }
@@ -95,8 +130,9 @@ fn show_usage<O: Sink>(alloc: Global, out: &mut O) -> Ended
 ///
 /// `solve`, which `--budget N` or `--budget=N` with a number from 1 to 1,099,511,627,776 may
 /// follow, answers the script that the source gives, as [`solve_run`] does; without a number there
-/// are 100,000 steps on a branch. With any other words nothing is read, the usage line is written,
-/// and the status is 2, or 4 or 5 where the sink failed or lacked memory.
+/// are 100,000 steps on a branch. `check` alone checks derivations, as [`check_run`] does. With any
+/// other words nothing is read, the usage line is written, and the status is 2, or 4 or 5 where the
+/// sink failed or lacked memory.
 pub fn run<R, S: Source, O: Sink, G: Gate>(
     rt: &R,
     alloc: Global,
@@ -107,10 +143,15 @@ pub fn run<R, S: Source, O: Sink, G: Gate>(
 ) -> Ended
     // With the command that solves, the responses to the script are written, or a front of them, and each status has its cause.
     ensures solves { (n : ℕ) → command.steps_of (map string_bytes words.now) ≡ Some n → IsSolving n (at_moment (S.moment source.old) (O.moment out.old)) (at_moment (S.moment source.new) (O.moment out.new)) result.status result.verdicts }
+    // With the command that checks, the lines of the derivations are written, or a front of them, and each status has its cause.
+    ensures checks { command.is_check (map string_bytes words.now) ≡ true → IsChecking (check.at_moment (S.moment source.old) (O.moment out.old)) (check.at_moment (S.moment source.new) (O.moment out.new)) result.status result.verdicts }
     // With other words nothing is read, and the usage line is written, or a front of it.
-    ensures refuses { command.steps_of (map string_bytes words.now) ≡ None → IsRefusing (O.moment out.old) (O.moment out.new) result.status result.verdicts }
-    ensures untouched { command.steps_of (map string_bytes words.now) ≡ None → source.new ≡ source.old }
+    ensures refuses { command.steps_of (map string_bytes words.now) ≡ None → command.is_check (map string_bytes words.now) ≡ false → IsRefusing (O.moment out.old) (O.moment out.new) result.status result.verdicts }
+    ensures untouched { command.steps_of (map string_bytes words.now) ≡ None → command.is_check (map string_bytes words.now) ≡ false → source.new ≡ source.old }
 {
+    if is_check(words) {
+        return check_run(alloc, source, out);
+    }
     match steps_of(words) {
         Some(steps) => solve_run(rt, alloc, WORKERS, Budget::Steps(steps), source, out, gate),
         None => show_usage(alloc, out),

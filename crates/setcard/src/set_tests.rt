@@ -138,6 +138,15 @@ fn laws_of_sets(rt: HostRuntime) -> Result<(), Fail> {
 }
 
 #[test]
+fn proofs(rt: HostRuntime) -> Result<(), Fail> {
+    let table = [(
+        "(assert false)(check-sat)(get-proof)(echo \"a\")(get-proof)",
+        "unsat\n(derivation\n(tree\n(unit 1 0)\n(clash (sign 1))\n)\n)\n\"a\"\n(derivation\n(tree\n(unit 1 0)\n(clash (sign 1))\n)\n)\n",
+    )];
+    check_answers(&rt, rt.alloc(), 0, table.as_slice())
+}
+
+#[test]
 fn outside_the_profile(rt: HostRuntime) -> Result<(), Fail> {
     let table = [
         (

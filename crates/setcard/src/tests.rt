@@ -104,10 +104,29 @@ fn scripts(rt: HostRuntime) -> Result<(), Fail> {
         ("(check)", 1, 0, "(error \"line 1: E4 unknown command\")\n"),
         ("(|exit|)", 1, 0, "(error \"line 1: E4 unknown command\")\n"),
         (
-            "(get-proof)",
+            "(get-model)",
             1,
             0,
             "(error \"line 1: E8 outside the profile\")\n",
+        ),
+        ("(get-proof)", 1, 0, "(error \"line 1: E14 no proof\")\n"),
+        (
+            "(check-sat)(get-proof)",
+            1,
+            1,
+            "sat\n(error \"line 1: E14 no proof\")\n",
+        ),
+        (
+            "(assert false)(check-sat)\n(declare-const p Bool)(get-proof)",
+            1,
+            1,
+            "unsat\n(error \"line 2: E14 no proof\")\n",
+        ),
+        (
+            "(assert false)(check-sat)\n(assert true)\n(get-proof)",
+            1,
+            1,
+            "unsat\n(error \"line 3: E14 no proof\")\n",
         ),
         (
             "(declare-sort U 1)",
@@ -227,7 +246,7 @@ fn faults(rt: HostRuntime) -> Result<(), Fail> {
 
 #[test]
 fn command_lines(rt: HostRuntime) -> Result<(), Fail> {
-    let lists: [(&[&str], &[u64], u8, &str); 18] = [
+    let lists: [(&[&str], &[u64], u8, &str); 20] = [
         (&["solve"], &[], 0, "\"a\"\n"),
         (&["solve", "--budget", "1"], &[], 0, "\"a\"\n"),
         (&["solve", "--budget=1099511627776"], &[], 0, "\"a\"\n"),
@@ -242,7 +261,9 @@ fn command_lines(rt: HostRuntime) -> Result<(), Fail> {
         (&["--budget", "1", "solve"], &[], 2, USAGE),
         (&[], &[], 2, USAGE),
         (&["--help"], &[], 2, USAGE),
-        (&["check"], &[], 2, USAGE),
+        (&["check", "check"], &[], 2, USAGE),
+        (&["check", "--budget", "1"], &[], 2, USAGE),
+        (&["Check"], &[], 2, USAGE),
         (&["solve", "solve"], &[], 2, USAGE),
         (&["Solve"], &[], 2, USAGE),
         (&[], &[3], 4, "usage: set"),
