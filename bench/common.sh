@@ -6,6 +6,14 @@ program=${1:-crates/setcard/out/setcard}
 work=$(mktemp -d) || exit 1
 trap 'rm -rf "$work"' EXIT
 
+# ELEMENTS SETS: a script's head, with elements e1 .. and sets A1 .. of a declared sort
+declared() {
+  echo '(set-logic ALL)'
+  echo '(declare-sort U 0)'
+  for i in $(seq 1 "$1"); do echo "(declare-const e$i U)"; done
+  for i in $(seq 1 "$2"); do echo "(declare-const A$i (Set U))"; done
+}
+
 # best of five runs on an input, in microseconds
 best() {
   local input=$1 least= t0 t1 us

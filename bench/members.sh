@@ -4,14 +4,6 @@
 cd "$(dirname "$0")/.." || exit 1
 . bench/common.sh
 
-# ELEMENTS SETS: e1 .. and A1 .. of a declared sort
-declared() {
-  echo '(set-logic ALL)'
-  echo '(declare-sort U 0)'
-  for i in $(seq 1 "$1"); do echo "(declare-const e$i U)"; done
-  for i in $(seq 1 "$2"); do echo "(declare-const A$i (Set U))"; done
-}
-
 # ELEMENTS SETS: each element in one set, the sets taken in turn
 in_turn() { for i in $(seq 1 "$1"); do echo "(assert (set.member e$i A$(( (i - 1) % $2 + 1 ))))"; done; }
 

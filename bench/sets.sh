@@ -4,11 +4,9 @@
 cd "$(dirname "$0")/.." || exit 1
 . bench/common.sh
 
-# N sets A1 .. AN of a declared sort
+# N sets A1 .. AN of a declared sort, and a set B
 sets() {
-  echo '(set-logic ALL)'
-  echo '(declare-sort U 0)'
-  for i in $(seq 1 "$1"); do echo "(declare-const A$i (Set U))"; done
+  declared 0 "$1"
   echo '(declare-const B (Set U))'
 }
 
