@@ -24,3 +24,4 @@ pub mod Sortings
 pub mod Pures
 pub mod Differing
 pub mod Unnamed
+pub mod Staying

@@ -64,7 +64,7 @@ absorbed done (x ∷ xs) ys h =
     let same : insert_key nat_eq done x ≡ done = ap (λ b. cond b done (done ++ x ∷ [])) h.0 in
     ap (λ ks. insert_all nat_eq ks (xs ++ ys)) same ∙ absorbed done xs ys h.1
 
-flat_map_same : (f g : ℕ → List ℕ) (xs : List ℕ) → AllByRecursion (λ x. f x ≡ g x) xs → flat_map f xs ≡ flat_map g xs
+pub flat_map_same : (f g : ℕ → List ℕ) (xs : List ℕ) → AllByRecursion (λ x. f x ≡ g x) xs → flat_map f xs ≡ flat_map g xs
 flat_map_same f g [] h = refl
 flat_map_same f g (x ∷ xs) h = rw (h.0, flat_map_same f g xs h.1) refl
 

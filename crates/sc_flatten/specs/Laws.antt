@@ -12,7 +12,7 @@ use Rattle.sc_terms.specs.declared.nodes.SetTerm.TheVariants as sets
 use Rattle.sc_terms.specs.declared.nodes.Sort.{Sort}
 use Rattle.sc_terms.specs.declared.nodes.Sort.TheVariants as sorts
 use Rattle.sc_terms.specs.declared.problem.Parts.{Parts}
-use Rattle.sc_terms.specs.Bank.{IsBank, IsFormulaOf, IsSetSort, IsDeclaredSort, HasSorts}
+use Rattle.sc_terms.specs.Bank.{IsBank, Begins, IsFormulaOf, IsSetSort, IsDeclaredSort, HasSorts}
 use Rattle.sc_terms.specs.BankValues.{bank_meaning}
 use Rattle.sc_terms.specs.Conditions.{IsProblem}
 use Rattle.sc_terms.specs.Meaning.{Interpretation, IsInterpretation}
@@ -29,6 +29,10 @@ AreFormulasOf bank assertions = AllByRecursion (IsFormulaOf bank) assertions
 -- The stock of a bank's formulas is a problem.
 abbrev pub StocksAreProblems : Type 0
 StocksAreProblems = (bank : List Node) (assertions : List ℕ) → IsBank bank → AreFormulasOf bank assertions → IsProblem (stock bank assertions)
+
+-- The stock of a bank's formulas stays as nodes are put behind the bank's.
+abbrev pub StocksStay : Type 0
+StocksStay = (old new : List Node) → Begins old new → (assertions : List ℕ) → IsBank old → AreFormulasOf old assertions → stock new assertions ≡ stock old assertions
 
 -- Each root is true under an interpretation exactly where its assertion is.
 abbrev pub MeaningsAgree : Type 0

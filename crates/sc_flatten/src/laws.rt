@@ -1,12 +1,17 @@
 //! Laws of the stock.
 
-ghost use Rattle.sc_flatten.specs.Laws.{StocksAreProblems, MeaningsAgree, SortsStay, StocksStaySorted, StocksStayPure, StocksHaveDiffs, StocksNameNoDiffs, LeastsAreOfClasses, ComponentsAscend};
+ghost use Rattle.sc_flatten.specs.Laws.{StocksAreProblems, StocksStay, MeaningsAgree, SortsStay, StocksStaySorted, StocksStayPure, StocksHaveDiffs, StocksNameNoDiffs, LeastsAreOfClasses, ComponentsAscend};
 
 use sc_terms::{bank_meanings_fit, meanings_fit};
 
 /// The stock of a bank's formulas is a problem: its numbers name what is there, nothing is a part of itself, and each set term but the empty sets has its component.
 pub fn stocks_are_problems()
     ensures { StocksAreProblems }
+{}
+
+/// What is put into a bank later changes no stock of what it had: the stock of a bank's formulas is the same problem over each bank that begins with this one.
+pub fn stocks_stay()
+    ensures { StocksStay }
 {}
 
 /// Under each interpretation of the constants a root of the stock is true exactly where its assertion is true in the bank.
