@@ -1,5 +1,7 @@
-pub mod Firsts
+pub mod SymbolBytes
 pub mod Walks
+pub mod Firsts
+pub mod Starts
 pub mod Found
 pub mod Settled
 pub mod Stretches

@@ -40,33 +40,36 @@ pub(crate) fn is_binary_digit(byte: u8) -> bool
     matches!(byte, b'0' | b'1')
 }
 
+/// Whether a simple symbol of SMT-LIB 2.6 may hold each byte.
+const SYMBOL_BYTES: [bool; 256] = [
+    false, false, false, false, false, false, false, false, false, false, false, false, false,
+    false, false, false, false, false, false, false, false, false, false, false, false, false,
+    false, false, false, false, false, false, false, true, false, false, true, true, true, false,
+    false, false, true, true, false, true, true, true, true, true, true, true, true, true, true,
+    true, true, true, false, false, true, true, true, true, true, true, true, true, true, true,
+    true, true, true, true, true, true, true, true, true, true, true, true, true, true, true, true,
+    true, true, true, true, true, false, false, false, true, true, false, true, true, true, true,
+    true, true, true, true, true, true, true, true, true, true, true, true, true, true, true, true,
+    true, true, true, true, true, true, false, false, false, true, false, false, false, false,
+    false, false, false, false, false, false, false, false, false, false, false, false, false,
+    false, false, false, false, false, false, false, false, false, false, false, false, false,
+    false, false, false, false, false, false, false, false, false, false, false, false, false,
+    false, false, false, false, false, false, false, false, false, false, false, false, false,
+    false, false, false, false, false, false, false, false, false, false, false, false, false,
+    false, false, false, false, false, false, false, false, false, false, false, false, false,
+    false, false, false, false, false, false, false, false, false, false, false, false, false,
+    false, false, false, false, false, false, false, false, false, false, false, false, false,
+    false, false, false, false, false, false, false, false, false, false, false, false, false,
+    false, false, false, false, false, false, false, false,
+];
+
 /// Whether a simple symbol of SMT-LIB 2.6 may hold the byte: a letter, a digit or one of
 /// `~ ! @ $ % ^ & * _ - + = < > . ? /`.
 #[inline(always)]
-#[tactic(auto, unfolding(crate::specs::Bytes::is_symbol_byte))]
 pub fn is_symbol_byte(byte: u8) -> bool
     ensures { result ≡ is_symbol_byte byte }
 {
-    matches!(byte, b'A'..=b'Z' | b'a'..=b'z' | b'0'..=b'9')
-        || matches!(
-            byte,
-            b'~' | b'!'
-                | b'@'
-                | b'$'
-                | b'%'
-                | b'^'
-                | b'&'
-                | b'*'
-                | b'_'
-                | b'-'
-                | b'+'
-                | b'='
-                | b'<'
-                | b'>'
-                | b'.'
-                | b'?'
-                | b'/'
-        )
+    SYMBOL_BYTES[byte as usize]
 }
 
 /// How many line feeds there are.

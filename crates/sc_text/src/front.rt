@@ -1,11 +1,12 @@
 //! What stands at the front of a text.
 
-ghost use Rattle.std.specs.Prelude.{◌≡◌, ◌+◌, ◌≤◌, length, drop, true, false};
+ghost use Rattle.std.specs.Prelude.{◌≡◌, ◌+◌, ◌≤◌, length, drop, slice_get, Some, is_none, true, false};
 ghost use Rattle.std.specs.List.{prefix_len};
+ghost use Rattle.sc_text.specs.Bytes.{is_digit, is_symbol_byte};
 ghost use Rattle.sc_text.specs.Modes.{run, stays};
 ghost use Rattle.sc_text.specs.Fronts.{gap_step, gap, front_of, front_at, run_fits, fits};
 
-use crate::bytes::{is_break, is_white};
+use crate::bytes::{is_break, is_digit, is_symbol_byte, is_white};
 use crate::mode::{Mode, Step};
 use crate::token::Kind;
 
@@ -56,14 +57,27 @@ fn gap_step(comment: bool, byte: u8) -> Option<bool>
     }
 }
 
+/// Whether a token, or nothing, stands at the front.
+#[inline(always)]
+fn is_token_byte(byte: u8) -> bool
+    ensures { result ≡ is_none (gap_step false byte) }
+{
+    gap_step(false, byte).is_none()
+}
+
 /// The white space and comments at the front.
+#[inline(always)]
 pub(crate) fn gap_at(bytes: &[u8]) -> Gap
     ensures gap { result ≡ gap false bytes.now }
     ensures within { result.len ≤ length bytes.now }
 {
-    match bytes.first() {
-        Some(first) if gap_step(false, *first).is_none() => Gap {
+    match bytes {
+        [first, ..] if is_token_byte(*first) => Gap {
             len: 0,
+            comment: false,
+        },
+        [first, second, ..] if is_white(*first) && is_token_byte(*second) => Gap {
+            len: 1,
             comment: false,
         },
         _ => long_gap_at(bytes),
@@ -99,6 +113,51 @@ fn behind_span(mode: Mode, bytes: &[u8], from: usize) -> usize
     from + mode.span(rest)
 }
 
+/// The simple symbol or reserved word that begins with the first byte.
+#[inline(always)]
+fn word_at(bytes: &[u8], first: u8) -> Run
+    requires first { slice_get bytes.now 0 ≡ Some first }
+    requires symbol { is_symbol_byte first ≡ true }
+    requires letter { is_digit first ≡ false }
+    ensures run { result ≡ run Mode.Start bytes.now }
+    ensures within { run_fits (length bytes.now) result }
+{
+    let len = behind_span(Mode::Symbol, bytes, 1);
+    if len < bytes.len() {
+        Run::Takes(len, Kind::Word)
+    } else {
+        Run::Ends(bytes.len(), Mode::Symbol)
+    }
+}
+
+/// How many digits stand at the front.
+#[inline(always)]
+fn digits_at(bytes: &[u8]) -> usize
+    ensures count { result ≡ prefix_len is_digit bytes.now }
+    ensures within { result ≤ length bytes.now }
+{
+    bytes.iter().take_while(|byte| is_digit(**byte)).count()
+}
+
+/// The token that begins with the first byte, a digit.
+#[inline(always)]
+fn number_at(bytes: &[u8], first: u8) -> Run
+    requires first { slice_get bytes.now 0 ≡ Some first }
+    requires digit { is_digit first ≡ true }
+    ensures run { result ≡ run Mode.Start bytes.now }
+    ensures within { run_fits (length bytes.now) result }
+{
+    if first == b'0' {
+        return long_run_at(bytes);
+    }
+    let len = digits_at(bytes);
+    match bytes.get(len) {
+        None => Run::Ends(bytes.len(), Mode::Digits),
+        Some(byte) if is_symbol_byte(*byte) => long_run_at(bytes),
+        Some(_) => Run::Takes(len, Kind::Numeral),
+    }
+}
+
 /// The token that begins with the first byte.
 #[inline(always)]
 pub(crate) fn run_at(bytes: &[u8]) -> Run
@@ -108,11 +167,12 @@ pub(crate) fn run_at(bytes: &[u8]) -> Run
     match bytes.first() {
         Some(b'(') => Run::Takes(1, Kind::Left),
         Some(b')') => Run::Takes(1, Kind::Right),
+        Some(first) if is_digit(*first) => number_at(bytes, *first),
+        Some(first) if is_symbol_byte(*first) => word_at(bytes, *first),
         _ => long_run_at(bytes),
     }
 }
 
-#[inline(always)]
 fn long_run_at(bytes: &[u8]) -> Run
     ensures run { result ≡ run Mode.Start bytes.now }
     ensures within { run_fits (length bytes.now) result }
@@ -134,6 +194,7 @@ fn long_run_at(bytes: &[u8]) -> Run
 }
 
 /// The token that begins with the first byte, or none.
+#[inline(always)]
 fn front_of(bytes: &[u8], last: bool) -> Front
     ensures value { result ≡ front_of last (run Mode.Start bytes.now) }
     ensures within { fits (length bytes.now) result }
@@ -150,6 +211,7 @@ fn front_of(bytes: &[u8], last: bool) -> Front
 }
 
 /// What stands behind a gap, which ended in a comment or not.
+#[inline(always)]
 pub(crate) fn front_at(bytes: &[u8], comment: bool, last: bool) -> Front
     ensures value { result ≡ front_at last comment bytes.now }
     ensures within { fits (length bytes.now) result }
