@@ -2,12 +2,14 @@
 
 ghost use Rattle.std.specs.Prelude.{◌≡◌, ◌<◌, length, IfOk, IfSome};
 ghost use Rattle.sc_sorts.specs.Pure.{IsPure, IsOfBank};
+ghost use Rattle.sc_terms.specs.Values.{Shows};
 ghost use Rattle.sc_model.specs.Deciding.{Concludes, Divides};
 ghost use Rattle.sc_tree.specs.Events.{AllowsOn, HasNoClash};
 ghost use Rattle.sc_branch.specs.Growing.{IsHeldAfter, IsOn};
 
-use crate::candidate::candidate;
+use crate::candidate::guessed_candidate;
 use crate::growth::Growing;
+use crate::guess::{Guessed, guess};
 use crate::labels::labelled;
 use crate::refine::{needed_split, useful_split};
 use crate::spread::{Tables, spread};
@@ -15,7 +17,7 @@ use sc_deriv::{Closing, Step, Steps};
 use sc_facts::Path;
 use sc_model::{Due, first_due, model_of};
 use sc_rules::PlainStep;
-use sc_terms::{Bank, Memory, Problem};
+use sc_terms::{Bank, Interp, Memory, Problem};
 use sc_tree::{Cause, Event};
 use std::alloc::Global;
 use std::marker::Model;
@@ -54,7 +56,7 @@ impl Branch {
         })
     }
 
-    /// What may be done at a leaf with this path, so that the search goes on: the leaf is closed where a clash stands on the path. Else the path goes on by steps that each conclude a new fact. Else, where the values that are read off the path make every assertion true, they are found. Else the leaf is split: by a cut on a formula or a membership, or on which of two different sets has their differing element. A path on which nothing is due has a model.
+    /// What may be done at a leaf with this path, so that the search goes on: the leaf is closed where a clash stands on the path. Else the path goes on by steps that each conclude a new fact. Else, where the values that are read off the path, with guesses of the memberships that it leaves open, make every assertion true, they are found. Else the leaf is split: by a cut on a formula or a membership, or on which of two different sets has their differing element. A path on which nothing is due has a model.
     ///
     /// `bank` has the nodes of which the problem is made: the assertions are tried there. `budget` is the greatest number of steps on a path; the leaf is given up only where the path has so many, no clash stands, and the values that are read off it do not do. The only error is want of memory, after which the branch is of no further use.
     pub fn advance(
@@ -99,33 +101,57 @@ impl Branch {
         ensures held { IfOk result (λ event. IsHeldAfter problem.now self.old event self.new) }
     {
         let needed = needed_split(&self.growing, &self.tables, alloc, problem)?;
+        let mut stuck = None;
         if needed.is_none() {
-            let found = candidate(alloc, problem, bank, self.growing.path(), &self.tables.said)?;
-            if let Some(values) = found {
+            let guessed = guess(alloc, problem, self.growing.path(), &self.tables)?;
+            stuck = guessed.stuck;
+            if let Some(values) = self.values(alloc, problem, bank, &guessed)? {
                 return Ok(Event::Found(values));
             }
         }
         if self.growing.len() as u64 >= budget {
             return Ok(Event::Spend(Cause::Budget));
         }
-        match self.split(alloc, problem, needed)? {
+        match self.split(alloc, problem, needed, stuck)? {
             Some(step) => Ok(self.split_by(problem, budget, step)),
             None => self.settle(alloc, problem, budget),
         }
     }
 
-    /// A split that looks useful, where there is one: the needed one, or else one that may matter to whether sets are equal.
+    /// The values that are read off the path with what was guessed beside it, where they make the problem true; nothing where the memberships of some element could not be guessed.
+    fn values(
+        &self,
+        alloc: Global,
+        problem: &Problem,
+        bank: &Bank,
+        guessed: &Guessed,
+    ) -> Result<Option<Interp>, Memory>
+        requires pure { IsPure problem.now }
+        requires of_bank { IsOfBank problem.now bank.now }
+        ensures { IfOk result (λ values. IfSome values (Shows problem.now)) }
+    {
+        if guessed.stuck.is_some() {
+            return Ok(None);
+        }
+        let path = self.growing.path();
+        let said = &self.tables.said;
+        let found = guessed_candidate(alloc, problem, bank, path, said, &guessed.members)?;
+        Ok(found)
+    }
+
+    /// A split that looks useful, where there is one: the needed one, or else one on a membership, of the element whose memberships could not be guessed, if there is one.
     fn split(
         &self,
         alloc: Global,
         problem: &Problem,
         needed: Option<PlainStep>,
+        stuck: Option<u32>,
     ) -> Result<Option<PlainStep>, Memory>
         ensures { IfOk result (λ step. IfSome step (Divides problem.now self.now.path.facts)) }
     {
         let proposed = match needed {
             Some(step) => Some(step),
-            None => useful_split(self.growing.path(), &self.tables, alloc, problem)?,
+            None => useful_split(self.growing.path(), &self.tables, alloc, problem, stuck)?,
         };
         let Some(step) = proposed else {
             return Ok(None);

@@ -7,7 +7,7 @@ ghost use Rattle.sc_terms.specs.Meaning.{AllTrue};
 ghost use Rattle.sc_terms.specs.Values.{interpretation_of, Shows};
 
 use crate::said::Said;
-use sc_facts::Path;
+use sc_facts::{Fact, Path};
 use sc_meaning::{EvalError, all_true};
 use sc_model::{model_of, read_off_values_show};
 use sc_terms::{Bank, Interp, Memory, Problem};
@@ -31,7 +31,7 @@ fn is_right(alloc: Global, problem: &Problem, bank: &Bank, values: &Interp) -> R
 }
 
 /// The values that are read off the path, where they make the problem true: each class of elements that the path says to be equal has a number of its own, and a set has those of the elements that the path puts into it, and no others.
-pub(crate) fn candidate(
+fn candidate(
     alloc: Global,
     problem: &Problem,
     bank: &Bank,
@@ -50,4 +50,34 @@ pub(crate) fn candidate(
         return Ok(Some(values));
     }
     Ok(None)
+}
+
+/// A copy of the path with more memberships behind it.
+fn with_members(path: &Path, members: &[(u32, u32)]) -> Result<Path, Memory> {
+    let mut more = path.clone()?;
+    for (element, set) in members {
+        more.push(Fact::Member(*element, *set, true))?;
+    }
+    Ok(more)
+}
+
+/// The values that are read off the path with memberships that were guessed beside it, where they make the problem true.
+pub(crate) fn guessed_candidate(
+    alloc: Global,
+    problem: &Problem,
+    bank: &Bank,
+    path: &Path,
+    said: &Said,
+    members: &[(u32, u32)],
+) -> Result<Option<Interp>, Memory>
+    requires pure { IsPure problem.now }
+    requires of_bank { IsOfBank problem.now bank.now }
+    ensures { IfOk result (λ values. IfSome values (Shows problem.now)) }
+{
+    if members.is_empty() {
+        return candidate(alloc, problem, bank, path, said);
+    }
+    let more = with_members(path, members)?;
+    let found = candidate(alloc, problem, bank, &more, said)?;
+    Ok(found)
 }

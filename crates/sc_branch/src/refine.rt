@@ -56,6 +56,16 @@ fn open_argument(problem: &Problem, path: &Path, element: u32, set: u32) -> Opti
     None
 }
 
+/// A cut on one element's membership in an argument of a set term.
+fn cut_at(problem: &Problem, path: &Path, said: &Said, element: u32) -> Option<PlainStep> {
+    for set in said.sets.of(element) {
+        if let Some(argument) = open_argument(problem, path, element, *set) {
+            return Some(PlainStep::Cut(FactName::Member(element, argument)));
+        }
+    }
+    None
+}
+
 /// A cut on an element's membership in an argument of a set term.
 fn cut_on_argument(problem: &Problem, path: &Path, said: &Said) -> Option<PlainStep> {
     for (element, set) in said.memberships.as_slice() {
@@ -84,21 +94,17 @@ fn split_on_difference(
     Ok(None)
 }
 
-/// A split without which the values that are read off the path cannot be right.
+/// A split without which no values that are read off the path can be right, whatever is guessed beside it.
 pub(crate) fn needed_split(
     growing: &Growing,
     tables: &Tables,
     alloc: Global,
     problem: &Problem,
 ) -> Result<Option<PlainStep>, Memory> {
-    let path = growing.path();
-    if let Some(step) = cut_on_formula(problem, path) {
+    if let Some(step) = cut_on_formula(problem, growing.path()) {
         return Ok(Some(step));
     }
-    if let Some(step) = split_on_difference(growing, &tables.said, alloc, problem)? {
-        return Ok(Some(step));
-    }
-    Ok(cut_on_argument(problem, path, &tables.said))
+    split_on_difference(growing, &tables.said, alloc, problem)
 }
 
 /// Whether the walk comes to a term for the first time; then it is marked with the element.
@@ -155,16 +161,50 @@ fn open_equal(
     Ok(None)
 }
 
-/// A cut that may matter to whether sets that are said to be equal are equal by the values that are read off the path.
+/// A mark for each set term, that the walk did not come to it.
+fn no_marks(alloc: Global, problem: &Problem) -> Result<Vec<u32>, Memory> {
+    let mut marks = Vec::new(alloc);
+    for _ in 0..problem.counts().sets {
+        marks.push(0)?;
+    }
+    Ok(marks)
+}
+
+/// A cut on one element's membership, on which a term or an equation of sets depends.
+fn split_at(
+    path: &Path,
+    tables: &Tables,
+    alloc: Global,
+    problem: &Problem,
+    element: u32,
+    marks: &mut [u32],
+) -> Result<Option<PlainStep>, Memory> {
+    if let Some(step) = cut_at(problem, path, &tables.said, element) {
+        return Ok(Some(step));
+    }
+    match open_equal(path, tables, alloc, element, marks)? {
+        Some(set) => Ok(Some(PlainStep::Cut(FactName::Member(element, set)))),
+        None => Ok(None),
+    }
+}
+
+/// A cut that may matter to whether sets are as the path says by the values that are read off it: on a membership of the element whose memberships could not be guessed, or else of another.
 pub(crate) fn useful_split(
     path: &Path,
     tables: &Tables,
     alloc: Global,
     problem: &Problem,
+    stuck: Option<u32>,
 ) -> Result<Option<PlainStep>, Memory> {
-    let mut marks = Vec::new(alloc);
-    for _ in 0..problem.counts().sets {
-        marks.push(0)?;
+    let mut marks = no_marks(alloc, problem)?;
+    if let Some(element) = stuck {
+        let step = split_at(path, tables, alloc, problem, element, &mut marks)?;
+        if step.is_some() {
+            return Ok(step);
+        }
+    }
+    if let Some(step) = cut_on_argument(problem, path, &tables.said) {
+        return Ok(Some(step));
     }
     for place in 0..problem.counts().elements {
         let element = place + 1;
