@@ -5,3 +5,4 @@ mod Lists
 mod OfKinds
 mod Complete
 mod Going
+mod Equations

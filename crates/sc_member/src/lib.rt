@@ -10,3 +10,6 @@ mod notes;
 mod table;
 
 pub use table::MemberTable;
+
+#[cfg(test)]
+mod tests;
