@@ -1,5 +1,5 @@
 -- Whatever tree has the tokens of a derivation's text is read as that derivation.
-use Rattle.std.proofs.Common.{◌≡◌, ℕ, Bool, true, false, List, [], ◌∷◌, ◌++◌, map, take, drop, refl, sym, ap, subst, ◌∙◌, append_assoc}
+use Rattle.std.proofs.Common.{◌≡◌, ℕ, Bool, true, false, List, [], ◌∷◌, ◌++◌, map, take, drop, Ok, refl, sym, ap, subst, ◌∙◌, append_assoc}
 use Rattle.std.specs.List.{AllByRecursion}
 use Rattle.sc_text.specs.declared.token.Kind.{Kind}
 use Rattle.sc_text.specs.declared.token.Kind.TheVariants as kind
@@ -11,14 +11,15 @@ use Rattle.sc_text.specs.Answers.{token_start, token_line}
 use Rattle.sc_text.specs.Readings.{Lexeme, Left, Right, named, Token, first_of, first, taken, rest_of, Reads, Whole}
 use Rattle.sc_text.proofs.Readings.{one}
 use Rattle.sc_sexpr.specs.Shapes.{Shape, Single, Listed, Shapes, Empty, More, shape}
-use Rattle.sc_sexpr.specs.Trees.{Mark, Opens, Closes, Word, mark, marks_of, marks_within, marks, behind_token, Tokens}
+use Rattle.sc_sexpr.specs.Trees.{Mark, Opens, Closes, Word, mark, marks_of, marks_within, behind_token, Tokens, place_of}
 use Rattle.sc_facts.specs.declared.name.FactName.{FactName}
 use Rattle.sc_facts.specs.declared.name.FactName.TheVariants as names
 use Rattle.sc_deriv.specs.declared.derivation.Node.{Node}
 use Rattle.sc_deriv.specs.declared.derivation.Derivation.{Derivation}
+use Rattle.sc_deriv.specs.Spelling.{IsSpelt}
 use Rattle.sc_deriv_text.specs.Sexpr.{Sexpr, Atom, Nil, Cons, list_of, plain, plains, tokens, tokens_of}
-use Rattle.sc_deriv_text.specs.Spelling.{name_expr, Part, part_expr, node_part, node_exprs, derivation_expr}
-use Rattle.sc_deriv_text.specs.Reading.{derivation_in}
+use Rattle.sc_deriv_text.specs.Spelling.{name_expr, Part, part_expr, node_part, node_exprs, derivation_expr, Fits}
+use Rattle.sc_deriv_text.specs.Reading.{derivation_in, reading}
 use Rattle.sc_deriv_text.specs.Laws.{TextsReadBack, TokensReadBack}
 use Rattle.sc_deriv_text.specs.Text.{text_of}
 use Rattle.sc_deriv_text.proofs.Again.{reads_again}
@@ -208,12 +209,15 @@ same true (Cons t ts) (Cons u us) xs ys p q e =
 same_expr : (a b : Sexpr) → IsProper false a → IsProper false b → tokens_of a ≡ tokens_of b → a ≡ b
 same_expr a b p q e = (same false a b [] [] p q (ap (λ (t : List Lexeme). t ++ []) e)).0
 
-pub tokens_read_back : TokensReadBack
-tokens_read_back d s p text line tree reads ts =
-    let found = tokens_read text 0 line (marks tree) ts in
-    let told = (one true text (map lexeme_of (marks tree)) (tokens_of (derivation_expr d)) Whole Whole found.0 reads).0 in
-    let is : plain (shape tree) ≡ derivation_expr d = same_expr (plain (shape tree)) (derivation_expr d) (shape_proper (shape tree) found.1) (derivation_proper d) (sym (shape_tokens (shape tree)) ∙ told) in
+pub shapes_read_back : (d : Derivation) → IsSpelt d → Fits d → (text : List ℕ) (line : ℕ) (t : Shape) → Reads true text (tokens_of (derivation_expr d)) Whole → Tokens (place_of text line) (marks_of t) → reading t ≡ Ok d
+shapes_read_back d s p text line t reads ts =
+    let found = tokens_read text 0 line (marks_of t) ts in
+    let told = (one true text (map lexeme_of (marks_of t)) (tokens_of (derivation_expr d)) Whole Whole found.0 reads).0 in
+    let is : plain t ≡ derivation_expr d = same_expr (plain t) (derivation_expr d) (shape_proper t found.1) (derivation_proper d) (sym (shape_tokens t) ∙ told) in
     ap derivation_in is ∙ reads_again d s p
+
+pub tokens_read_back : TokensReadBack
+tokens_read_back d s p text line tree = shapes_read_back d s p text line (shape tree)
 
 pub texts_read_back : TextsReadBack
 texts_read_back d s p line tree ts = tokens_read_back d s p (text_of d) line tree (texts_have_tokens d s p) ts
