@@ -3,3 +3,5 @@ pub mod Following
 pub mod Tallying
 pub mod Checking
 pub mod Soundness
+pub mod Growing
+pub mod Printing

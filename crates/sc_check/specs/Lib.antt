@@ -5,3 +5,4 @@ pub mod Judging
 pub mod Following
 pub mod Ends
 pub mod Laws
+pub mod Printed

@@ -1,9 +1,13 @@
-//! What an accepted derivation tells.
+//! What an accepted derivation tells, and which ones are accepted.
 
 ghost use Rattle.sc_check.specs.Laws.{AcceptedRefute};
+ghost use Rattle.sc_check.specs.Printed.{ProofsArePrinted, PrintedAreAccepted, ChecksAcceptPrinted};
 
 use sc_deriv::{accepts_closed_trees, closed_trees_refute};
-use sc_flatten::{meanings_agree, stocks_are_problems};
+use sc_deriv_text::{items_have_tokens, texts_have_tokens};
+use sc_elab::elaboration_grows_bank;
+use sc_flatten::{meanings_agree, stocks_are_problems, stocks_stay};
+use sc_session::{proofs_refute, sessions_say_the_same, traces_go_along};
 use sc_terms::meanings_fit;
 
 /// Where a derivation is accepted, no interpretation of the constants makes all the assertions true
@@ -16,4 +20,24 @@ pub fn accepted_derivations_refute()
     meanings_fit();
     stocks_are_problems();
     meanings_agree();
+}
+
+/// What a script prints where it is solved is accepted where the same script is checked: each text
+/// with which a `(get-proof)` is answered, and each copy of it with other white space and comments,
+/// is accepted against the assertions of that `(get-proof)`, if the verdicts are just and the check
+/// comes to the script's `(exit)`. So the lines on a transcript whose derivations are these, in
+/// order, say of each that it was accepted.
+pub fn printed_derivations_are_accepted()
+    ensures printed { ProofsArePrinted }
+    ensures accepted { PrintedAreAccepted }
+    ensures checks { ChecksAcceptPrinted }
+{
+    elaboration_grows_bank();
+    stocks_stay();
+    proofs_refute();
+    traces_go_along();
+    sessions_say_the_same();
+    accepts_closed_trees();
+    texts_have_tokens();
+    items_have_tokens();
 }
