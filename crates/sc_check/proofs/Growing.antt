@@ -19,10 +19,10 @@ use Rattle.sc_session.specs.declared.tracing.Traced.{Traced}
 use Rattle.sc_session.specs.declared.tracing.Traced.TheVariants as traced
 use Rattle.sc_session.specs.Scripts.{Item}
 use Rattle.sc_session.specs.States.{State, moved_on}
-use Rattle.sc_session.specs.Effects.{Effect, Answers, Checks, declares, is_taken, declare_of, is_empty_list, assert_of, most_checks, effect}
+use Rattle.sc_session.specs.Effects.{Effect, declares, is_taken, declare_of, is_empty_list, assert_of, most_checks}
 use Rattle.sc_session.specs.Tracing.{Trace, followed, trace, trace_of, step, GoesOn}
 use Rattle.sc_session.proofs.Standing.{still_formulas, sort_asserts_none, constant_asserts_none, one_more_assertion}
-use Rattle.sc_check.specs.Reports.{Standing, standing, behind_trace, behind_item, follow}
+use Rattle.sc_check.specs.Reports.{Standing, standing, behind_trace, follow}
 
 -- elaboration adds at the end of the bank
 abbrev pub Elaborates : Type 0

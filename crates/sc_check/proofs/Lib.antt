@@ -4,4 +4,6 @@ pub mod Tallying
 pub mod Checking
 pub mod Soundness
 pub mod Growing
+pub mod Asking
 pub mod Printing
+pub mod Counting

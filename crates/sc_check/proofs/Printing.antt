@@ -1,17 +1,15 @@
 -- What a script prints where it is solved is accepted where it is followed.
-use Rattle.std.proofs.Common.{◌≡◌, if◌then◌else◌, ℕ, zero, suc, ◌+◌, Bool, true, false, List, [], ◌∷◌, ◌++◌, length, cond, Option, Some, None, slice_get, Result, Ok, Err, refl, sym, ap, ◌∙◌, append_assoc, append-nil, subst, inl, inr, arith}
-use Rattle.std.specs.Prelude.{◌⊎◌, filter}
+use Rattle.std.proofs.Common.{◌≡◌, if◌then◌else◌, ℕ, zero, suc, ◌+◌, Bool, true, false, List, [], ◌∷◌, ◌++◌, length, cond, Option, Some, None, slice_get, Result, Ok, refl, sym, ap, ◌∙◌, append_assoc, append-nil, subst, inl, inr, arith}
+use Rattle.std.specs.Prelude.{◌⊎◌}
 use Rattle.std.specs.List.{AllByRecursion, AllZip, IsDistinct}
 use Rattle.sc_text.specs.declared.code.Code.{Code}
-use Rattle.sc_text.specs.declared.code.Code.TheVariants as code
 use Rattle.sc_text.specs.Fronts.{front, gap}
-use Rattle.sc_text.specs.Readings.{Lexeme, First, End, first, rest_of, Reads, Begins as BeginsWith, Whole}
+use Rattle.sc_text.specs.Readings.{Lexeme, End, first, rest_of, Reads, Begins as BeginsWith, Whole}
 use Rattle.sc_text.proofs.Readings.{one}
 use Rattle.sc_sexpr.specs.declared.item.Last.{Last}
 use Rattle.sc_sexpr.specs.View.{View}
-use Rattle.sc_commands.specs.Commands.{CommandShape, SetLogic, SetInfo, DeclareSort, DeclareConst, DeclareFun, Assert, CheckSat, GetProof, Echo, Exit}
+use Rattle.sc_commands.specs.Commands.{CommandShape, GetProof}
 use Rattle.sc_commands.specs.Forms.{command_of}
-use Rattle.sc_print.specs.Spelling.{spelt_error}
 use Rattle.sc_terms.specs.declared.nodes.Node.{Node}
 use Rattle.sc_terms.specs.declared.problem.Parts.{Parts}
 use Rattle.sc_terms.specs.Bank.{IsBank, Begins}
@@ -33,51 +31,21 @@ use Rattle.sc_deriv_text.proofs.ReadBack.{shapes_read_back}
 use Rattle.sc_tree.specs.declared.verdict.Verdict.{Verdict}
 use Rattle.sc_tree.specs.Verdicts.{Refutes, IsJust}
 use Rattle.sc_session.specs.Said as said
-use Rattle.sc_session.specs.declared.tracing.Traced.{Traced}
 use Rattle.sc_session.specs.declared.tracing.Traced.TheVariants as traced
-use Rattle.sc_session.specs.Scripts.{Item, Script, IsTold}
+use Rattle.sc_session.specs.Scripts.{Item, IsTold}
 use Rattle.sc_session.specs.States.{State, start, with_verdict, proof}
-use Rattle.sc_session.specs.Effects.{Effect, Answers, Checks, refuses, get_proof, effect, effect_of, turn, verdict_line}
+use Rattle.sc_session.specs.Effects.{Effect, Answers, Checks, get_proof, effect_of, turn, verdict_line}
 use Rattle.sc_session.specs.Meaning.{Assertion}
-use Rattle.sc_session.specs.Courses.{Course, course_after, course, course_of, just_after, AreJust}
-use Rattle.sc_session.specs.Tracing.{Trace, trace_by, followed, trace, trace_of, step, GoesOn}
+use Rattle.sc_session.specs.Courses.{Course, course_after, course, just_after, AreJust}
+use Rattle.sc_session.specs.Tracing.{step, GoesOn}
 use Rattle.sc_session.specs.Laws.{SayTheSame}
 use Rattle.sc_session.specs.Proving.{Proves, ProofsRefute, beside, IsKnown, TracesGoAlong}
-use Rattle.sc_check.specs.declared.finding.Finding.{Finding}
 use Rattle.sc_check.specs.declared.finding.Finding.TheVariants as found
-use Rattle.sc_check.specs.Lines.{Tally, no_lines, judged, finding, finding_line, is_derivation, with_finding, with_item, tally}
-use Rattle.sc_check.specs.Reports.{Standing, standing, behind_trace, follow, Judges}
+use Rattle.sc_check.specs.Lines.{Tally, judged, finding, finding_line, is_derivation, with_finding, tally}
+use Rattle.sc_check.specs.Reports.{standing, follow, Judges}
 use Rattle.sc_check.specs.Printed.{proof_for, with_proof, proofs_after, proofs, proofs_of, Prints, none, next, ProofsArePrinted, IsFollowed, IsCopyOf, derivations_in, accepted_lines, all_accepted, AreAccepted, PrintedAreAccepted, ChecksAcceptPrinted}
-use Rattle.sc_check.proofs.Growing.{Elaborates, IsSound, LeadsTo, begins_then, Reaches, grow, reach}
-
--- ---- a command asks for a derivation, or it does not
-record IsOther (c : Result CommandShape Code) : Type 0 where
-  silent : (s : State) → proof_for c s ≡ None
-  unasked : (s : State) (line : ℕ) (ns : List ℕ) → (trace_of c s line).given ≡ traced.Proof ns → ⊥
-
-none_asked : (s : State) (e : Effect) (ns : List ℕ) → (followed s e).given ≡ traced.Proof ns → ⊥
-none_asked s (Answers (said.Text bytes) t) ns e = cc
-none_asked s (Answers (said.Error bytes) t) ns e = cc
-none_asked s (Answers (said.Exit bytes) t) ns e = cc
-none_asked s (Checks problem) ns e = cc
-
-kind_of : (c : Result CommandShape Code) → (c ≡ Ok GetProof) ⊎ IsOther c
-kind_of (Err c) = inr (record { silent = λ s. refl; unasked = λ s line ns e. cc })
-kind_of (Ok SetLogic) = inr (record { silent = λ s. refl; unasked = λ s line ns. none_asked s (effect s SetLogic line) ns })
-kind_of (Ok SetInfo) = inr (record { silent = λ s. refl; unasked = λ s line ns. none_asked s (effect s SetInfo line) ns })
-kind_of (Ok (DeclareSort name arity)) = inr (record { silent = λ s. refl; unasked = λ s line ns. none_asked s (effect s (DeclareSort name arity) line) ns })
-kind_of (Ok (DeclareConst name sort)) = inr (record { silent = λ s. refl; unasked = λ s line ns. none_asked s (effect s (DeclareConst name sort) line) ns })
-kind_of (Ok (DeclareFun name arguments range)) = inr (record { silent = λ s. refl; unasked = λ s line ns. none_asked s (effect s (DeclareFun name arguments range) line) ns })
-kind_of (Ok (Assert term)) = inr (record { silent = λ s. refl; unasked = λ s line ns. none_asked s (effect s (Assert term) line) ns })
-kind_of (Ok CheckSat) = inr (record { silent = λ s. refl; unasked = λ s line ns. none_asked s (effect s CheckSat line) ns })
-kind_of (Ok GetProof) = inl refl
-kind_of (Ok (Echo literal)) = inr (record { silent = λ s. refl; unasked = λ s line ns. none_asked s (effect s (Echo literal) line) ns })
-kind_of (Ok Exit) = inr (record { silent = λ s. refl; unasked = λ s line ns. none_asked s (effect s Exit line) ns })
-
--- a get-proof is followed by asking, or by an error
-asking : (b : Bool) (x : List ℕ) (f : State) (bytes : List ℕ) → let g : Traced = (if b then trace_by (traced.Proof x) f else trace_by (traced.Error bytes) f).given in ((g ≡ traced.Nothing → ⊥) × (g ≡ traced.Exit → ⊥))
-asking true x f bytes = (λ e. cc, λ e. cc)
-asking false x f bytes = (λ e. cc, λ e. cc)
+use Rattle.sc_check.proofs.Asking.{IsOther, kind_of, known_quiet, is_loud, goes_behind, session_is, last_ends}
+use Rattle.sc_check.proofs.Growing.{Elaborates, IsSound, begins_then, grow, reach}
 
 -- ---- the proofs of a course, and what is asked where it is followed
 -- each derivation refutes the problem of the assertions at its place
@@ -136,19 +104,12 @@ module _
     sound_behind : (t : State) → (step (beside s []) i).session ≡ beside t [] → GoesOn (step (beside s []) i).given → IsSound t
     sound_behind t e g = back t (subst IsSound e (grow grows (beside s []) i (aside s sound) g).sound)
 
-    goes_behind : (t : State) (g : Traced) → (step (beside s []) i).session ≡ beside t [] → (step (beside s []) i).given ≡ g → follow (behind_trace g (beside t []) before) is ≡ Some (standing session asked)
-    goes_behind t g e given = subst (λ x. follow (behind_trace g x before) is ≡ Some (standing session asked)) e (subst (λ x. follow (behind_trace x (step (beside s []) i).session before) is ≡ Some (standing session asked)) given goes)
-
     no_more : Meets final before asked []
     no_more = (reached s before (i ∷ is) sound goes).1
 
     -- it asks for no derivation
     quietly : (t : State) (us : List Verdict) (more : List Assertion) → Proves t → AreJust may_miss budget t more all us → (step (beside s []) i).session ≡ beside t [] → (step (beside s []) i).given ≡ traced.Nothing → Meets final before asked (rest t us)
-    quietly t us more holds just e given = ahead t us more before (sound_behind t e (subst GoesOn (sym given) tt)) holds just (goes_behind t traced.Nothing e given)
-
-    known_quiet : (t : State) (bytes : List ℕ) (g : Traced) → ((ns : List ℕ) → g ≡ traced.Proof ns → ⊥) → IsKnown s (said.Text bytes) g → g ≡ traced.Nothing
-    known_quiet t bytes g unasked (inl e) = e
-    known_quiet t bytes g unasked (inr (d, is, text, e)) = absurd (unasked (assertions_in_force s.names) e)
+    quietly t us more holds just e given = ahead t us more before (sound_behind t e (subst GoesOn (sym given) tt)) holds just (goes_behind (beside s []) (beside t []) i is before (standing session asked) traced.Nothing goes e given)
 
     checks : (problem : Parts) (us : List Verdict) → turn s i ≡ Checks problem → just_after may_miss budget (Checks problem) s terms i us (λ t more ws. AreJust may_miss budget t more all ws) → Meets final before asked (proofs_after (Checks problem) s us rest)
     checks problem [] e just = no_more
@@ -159,7 +120,7 @@ module _
     other : ((ns : List ℕ) → (step (beside s []) i).given ≡ traced.Proof ns → ⊥) → (e : Effect) → turn s i ≡ e → Just e → Meets final before asked (proofs_after e s vs rest)
     other unasked (Answers (said.Text bytes) t) e just =
         let step_is = along.answered s t [] i (said.Text bytes) e in
-        quietly t vs _ (refute.goes_on s t i (said.Text bytes) proves e) just step_is.0 (known_quiet t bytes (step (beside s []) i).given unasked step_is.1)
+        quietly t vs _ (refute.goes_on s t i (said.Text bytes) proves e) just step_is.0 (known_quiet s bytes (step (beside s []) i).given unasked step_is.1)
     other unasked (Answers (said.Error bytes) t) e just = no_more
     other unasked (Answers (said.Exit bytes) t) e just = no_more
     other unasked (Checks problem) e just = checks problem vs e just
@@ -172,7 +133,7 @@ module _
         by (q, inl quiet) = absurd (loud quiet)
         by (q, inr (d', is_proof', text, given)) =
             let in_force : List ℕ = assertions_in_force s.names in
-            let others = ahead s vs _ (before ++ in_force ∷ []) sound proves just (goes_behind s (traced.Proof in_force) q given) in
+            let others = ahead s vs _ (before ++ in_force ∷ []) sound proves just (goes_behind (beside s []) (beside s []) i is before (standing session asked) (traced.Proof in_force) goes q given) in
             let grown = (reached s before (i ∷ is) sound goes).0 in
             let still : stock final in_force ≡ stock s.bank in_force = stocks s.bank final grown in_force sound.bank sound.assertions in
             record {
@@ -201,48 +162,15 @@ module _
         by : (command_of i.shape ≡ Ok GetProof) ⊎ IsOther (command_of i.shape) → Meets final before asked (proofs s (i ∷ all) vs)
         by (inl is) =
             put (subst (λ p. Meets final before asked (with_proof p (proofs_after (turn s i) s vs rest))) (ap (λ c. proof_for c s) (sym is))
-            (asks (proof s) refl (turn s i) refl (ap (λ c. effect_of c s i.line) is) (λ e. (asking s.current (assertions_in_force s.names) (beside s []) (spelt_error i.line code.E14)).0 (ap (λ c. (trace_of c (beside s []) i.line).given) (sym is) ∙ e)) (just_now just)))
+            (asks (proof s) refl (turn s i) refl (ap (λ c. effect_of c s i.line) is) (is_loud s i is).0 (just_now just)))
         by (inr o) =
             put (subst (λ p. Meets final before asked (with_proof p (proofs_after (turn s i) s vs rest))) (sym (o.silent s))
             (other (o.unasked (beside s []) i.line) (turn s i) refl (just_now just)))
 
-  -- ---- the (exit)
-  module _ (s : State) (vs : List Verdict) (before : List (List ℕ)) (leaves : (step (beside s []) leaving).given ≡ traced.Exit) where
-    abbrev past : State → List Verdict → List Derivation
-    past t us = proofs t behind us
-
-    not_answered : (g : Traced) (bytes : List ℕ) → g ≡ traced.Exit → IsKnown s (said.Text bytes) g → ⊥
-    not_answered g bytes e (inl k) = let both : traced.Exit ≡ traced.Nothing = sym e ∙ k in cc
-    not_answered g bytes e (inr (d, is, text, k)) = let both : traced.Exit ≡ traced.Proof (assertions_in_force s.names) = sym e ∙ k in cc
-
-    none_behind : (e : Effect) → turn s leaving ≡ e → proofs_after e s vs past ≡ []
-    none_behind (Answers (said.Text bytes) t) e = absurd (not_answered (step (beside s []) leaving).given bytes leaves (along.answered s t [] leaving (said.Text bytes) e).1)
-    none_behind (Answers (said.Error bytes) t) e = refl
-    none_behind (Answers (said.Exit bytes) t) e = refl
-    none_behind (Checks problem) e = by vs
-      where
-        by : (us : List Verdict) → proofs_after (Checks problem) s us past ≡ []
-        by [] = refl
-        by (v ∷ us) = absurd (let both : traced.Exit ≡ traced.Nothing = sym leaves ∙ (along.checked s [] leaving problem v e).1 in cc)
-
-    silent : proof_for (command_of leaving.shape) s ≡ None
-    silent = by (kind_of (command_of leaving.shape))
-      where
-        by : (command_of leaving.shape ≡ Ok GetProof) ⊎ IsOther (command_of leaving.shape) → proof_for (command_of leaving.shape) s ≡ None
-        by (inl is) = absurd ((asking s.current (assertions_in_force s.names) (beside s []) (spelt_error leaving.line code.E14)).1 (ap (λ c. (trace_of c (beside s []) leaving.line).given) (sym is) ∙ leaves))
-        by (inr o) = o.silent s
-
-    last_ends : proofs s (leaving ∷ behind) vs ≡ []
-    unfolding proofs
-    last_ends = ap (λ p. with_proof p (proofs_after (turn s leaving) s vs past)) silent ∙ none_behind (turn s leaving) refl
-
-  session_is : (s : State) (before : List (List ℕ)) → Some (standing s before) ≡ Some (standing session asked) → (s ≡ session) × (before ≡ asked)
-  session_is s before e = let same_standing : standing s before ≡ standing session asked = cc in (ap (λ (x : Standing). x.session) same_standing, ap (λ (x : Standing). x.asked) same_standing)
-
   all_meet : (is : List Item) → Ahead is
   all_meet [] s vs terms before sound proves just goes =
-      let at = session_is (beside s []) before goes in
-      subst (Meets final before asked) (sym (last_ends s vs before (ap (λ t. (step t leaving).given) at.0 ∙ exits))) (record { news = []; parts = sym at.1 ∙ sym (append-nil before); answered = tt })
+      let at = session_is (beside s []) session before asked goes in
+      subst (Meets final before asked) (sym (last_ends along leaving behind s vs (ap (λ t. (step t leaving).given) at.0 ∙ exits))) (record { news = []; parts = sym at.1 ∙ sym (append-nil before); answered = tt })
   all_meet (i ∷ is) s vs terms before sound proves just goes = item s vs terms before i is sound proves goes (all_meet is) just
 
 -- ---- copies

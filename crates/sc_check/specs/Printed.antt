@@ -18,7 +18,7 @@ use Rattle.sc_session.specs.declared.tracing.Traced.TheVariants as traced
 use Rattle.sc_session.specs.Scripts.{Item, Script, IsTold}
 use Rattle.sc_session.specs.States.{State, start, with_verdict, proof}
 use Rattle.sc_session.specs.Effects.{Effect, Answers, Checks, turn}
-use Rattle.sc_session.specs.Courses.{course_of, AreJust}
+use Rattle.sc_session.specs.Courses.{course_of, AreJust, HasVerdicts}
 use Rattle.sc_session.specs.Tracing.{step}
 use Rattle.sc_check.specs.declared.finding.Finding.TheVariants as found
 use Rattle.sc_check.specs.Lines.{Tally, no_lines, finding, finding_line, is_derivation, tally}
@@ -106,6 +106,12 @@ abbrev pub PrintedAreAccepted : Type 0
 PrintedAreAccepted =
     (may_miss : Bool) (budget : ℕ) (script : Script) (verdicts : List Verdict) → AreJust may_miss budget start [] script.items verdicts →
     (asked : List (List ℕ)) (bank : List Node) → IsFollowed script.items asked bank → AreAccepted bank asked (proofs_of script verdicts)
+
+-- Where the script is solved without an error, each of its get-proofs is answered.
+abbrev pub EachIsAnswered : Type 0
+EachIsAnswered =
+    (budget : ℕ) (script : Script) (verdicts : List Verdict) → HasVerdicts budget script verdicts → (course_of script verdicts).fails ≡ false →
+    (asked : List (List ℕ)) (bank : List Node) → IsFollowed script.items asked bank → length (proofs_of script verdicts) ≡ length asked
 
 -- So where a check finds copies of what the script prints, in order, and no other derivation, its lines say of each that it was accepted.
 abbrev pub ChecksAcceptPrinted : Type 0

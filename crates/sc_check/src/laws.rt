@@ -1,7 +1,7 @@
 //! What an accepted derivation tells, and which ones are accepted.
 
 ghost use Rattle.sc_check.specs.Laws.{AcceptedRefute};
-ghost use Rattle.sc_check.specs.Printed.{ProofsArePrinted, PrintedAreAccepted, ChecksAcceptPrinted};
+ghost use Rattle.sc_check.specs.Printed.{ProofsArePrinted, PrintedAreAccepted, EachIsAnswered, ChecksAcceptPrinted};
 
 use sc_deriv::{accepts_closed_trees, closed_trees_refute};
 use sc_deriv_text::{items_have_tokens, texts_have_tokens};
@@ -25,11 +25,13 @@ pub fn accepted_derivations_refute()
 /// What a script prints where it is solved is accepted where the same script is checked: each text
 /// with which a `(get-proof)` is answered, and each copy of it with other white space and comments,
 /// is accepted against the assertions of that `(get-proof)`, if the verdicts are just and the check
-/// comes to the script's `(exit)`. So the lines on a transcript whose derivations are these, in
-/// order, say of each that it was accepted.
+/// comes to the script's `(exit)`. Where solving has no error either, each `(get-proof)` is
+/// answered. So the lines on a transcript whose derivations are these, in order, say of each that it
+/// was accepted.
 pub fn printed_derivations_are_accepted()
     ensures printed { ProofsArePrinted }
     ensures accepted { PrintedAreAccepted }
+    ensures answered { EachIsAnswered }
     ensures checks { ChecksAcceptPrinted }
 {
     elaboration_grows_bank();
