@@ -100,7 +100,7 @@ mutual
 
 -- ---- tokens that are no parentheses
 
-abbrev IsProper : Bool → Sexpr → Type 0
+abbrev pub IsProper : Bool → Sexpr → Type 0
 IsProper false (Atom Left) = ⊥
 IsProper false (Atom Right) = ⊥
 IsProper false (Atom l) = Unit {0}
@@ -153,7 +153,7 @@ nodes_proper : (ns : List Node) → IsProper true (list_of (node_exprs ns))
 nodes_proper [] = tt
 nodes_proper (n ∷ ns) = (part_proper (node_part n), nodes_proper ns)
 
-derivation_proper : (d : Derivation) → IsProper false (derivation_expr d)
+pub derivation_proper : (d : Derivation) → IsProper false (derivation_expr d)
 derivation_proper d = (tt, ((tt, nodes_proper d.nodes), tt))
 
 -- ---- the tokens tell the expression
@@ -180,7 +180,7 @@ no_close Nil xs ys p e = apart (head e)
 no_close (Cons t ts) xs ys p e = apart (head e)
 
 -- the tokens at the front are those of one expression
-same : (m : Bool) (a b : Sexpr) (xs ys : List Lexeme) → IsProper m a → IsProper m b → tokens m a ++ xs ≡ tokens m b ++ ys → (a ≡ b) × (xs ≡ ys)
+pub same : (m : Bool) (a b : Sexpr) (xs ys : List Lexeme) → IsProper m a → IsProper m b → tokens m a ++ xs ≡ tokens m b ++ ys → (a ≡ b) × (xs ≡ ys)
 same false (Atom l) (Atom k) xs ys p q e = (ap (λ (x : Lexeme). Atom x) (head e), tail e)
 same false (Atom l) Nil xs ys p q e = absurd (not_left l p (head e))
 same false (Atom l) (Cons t ts) xs ys p q e = absurd (not_left l p (head e))
@@ -209,11 +209,17 @@ same true (Cons t ts) (Cons u us) xs ys p q e =
 same_expr : (a b : Sexpr) → IsProper false a → IsProper false b → tokens_of a ≡ tokens_of b → a ≡ b
 same_expr a b p q e = (same false a b [] [] p q (ap (λ (t : List Lexeme). t ++ []) e)).0
 
+-- the tokens of some bytes that are those of a tree
+pub told_reads : (text : List ℕ) (line : ℕ) (t : Shape) → Tokens (place_of text line) (marks_of t) → Reads true text (tokens_of (plain t)) Whole × IsProper false (plain t)
+told_reads text line t ts =
+    let found = tokens_read text 0 line (marks_of t) ts in
+    (subst (λ ls. Reads true text ls Whole) (shape_tokens t) found.0, shape_proper t found.1)
+
 pub shapes_read_back : (d : Derivation) → IsSpelt d → Fits d → (text : List ℕ) (line : ℕ) (t : Shape) → Reads true text (tokens_of (derivation_expr d)) Whole → Tokens (place_of text line) (marks_of t) → reading t ≡ Ok d
 shapes_read_back d s p text line t reads ts =
-    let found = tokens_read text 0 line (marks_of t) ts in
-    let told = (one true text (map lexeme_of (marks_of t)) (tokens_of (derivation_expr d)) Whole Whole found.0 reads).0 in
-    let is : plain t ≡ derivation_expr d = same_expr (plain t) (derivation_expr d) (shape_proper t found.1) (derivation_proper d) (sym (shape_tokens t) ∙ told) in
+    let found = told_reads text line t ts in
+    let told = (one true text (tokens_of (plain t)) (tokens_of (derivation_expr d)) Whole Whole found.0 reads).0 in
+    let is : plain t ≡ derivation_expr d = same_expr (plain t) (derivation_expr d) found.1 (derivation_proper d) told in
     ap derivation_in is ∙ reads_again d s p
 
 pub tokens_read_back : TokensReadBack
