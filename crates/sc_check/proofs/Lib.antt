@@ -7,3 +7,6 @@ pub mod Growing
 pub mod Asking
 pub mod Printing
 pub mod Counting
+pub mod Literals
+pub mod Speaking
+pub mod Copying

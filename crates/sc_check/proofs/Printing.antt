@@ -272,6 +272,10 @@ nothing_made : IsBank []
 unfolding IsDistinct
 nothing_made = record { stands = λ n x e. absurd cc; different = tt; few = omega arith }
 
+-- what was judged was followed
+pub followed_to : (v y : View) (t : Tally) (j : Judges v t y) (items later_items : List Item) → items ≡ j.follows.items ++ j.leaves.i ∷ later_items → IsFollowed items j.script.asked (step j.script.session j.leaves.i).session.bank
+followed_to v y t j items later_items parts = record { before = j.follows.items; leaving = j.leaves.i; behind = later_items; session = j.script.session; parts = parts; follows = j.follows.follows; leaves = j.leaves.ends; terms = refl }
+
 module _ (grows : Elaborates) (stocks : StocksStay) (refute : ProofsRefute) (along : TracesGoAlong) (same : SayTheSame) (accepts : AcceptsClosedTrees) (have : TextsHaveTokens) (items_begin : ItemsHaveTokens) where
   pub printed_are_accepted : PrintedAreAccepted
   printed_are_accepted may_miss budget script verdicts just asked bank f =
@@ -281,10 +285,6 @@ module _ (grows : Elaborates) (stocks : StocksStay) (refute : ProofsRefute) (alo
       let meets = subst (λ is. Meets (step f.session f.leaving).session.bank [] asked (proofs start is verdicts)) (sym f.parts) m in
       let there = subst (λ k. Answered k (proofs_of script verdicts) meets.news) (sym f.terms) meets.answered in
       are_accepted accepts have items_begin bank asked (proofs_of script verdicts) (λ k d at. asked_at bank (proofs_of script verdicts) asked (subst (Answered bank (proofs_of script verdicts)) (sym meets.parts) there) k d at)
-
-  -- what was judged was followed
-  followed_to : (v y : View) (t : Tally) (j : Judges v t y) (items later_items : List Item) → items ≡ j.follows.items ++ j.leaves.i ∷ later_items → IsFollowed items j.script.asked (step j.script.session j.leaves.i).session.bank
-  followed_to v y t j items later_items parts = record { before = j.follows.items; leaving = j.leaves.i; behind = later_items; session = j.script.session; parts = parts; follows = j.follows.follows; leaves = j.leaves.ends; terms = refl }
 
   pub checks_accept_printed : ChecksAcceptPrinted
   checks_accept_printed may_miss budget script verdicts just v y t j later_items parts fits copies =

@@ -6,3 +6,4 @@ pub mod Following
 pub mod Ends
 pub mod Laws
 pub mod Printed
+pub mod Transcripts

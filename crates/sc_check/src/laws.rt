@@ -2,7 +2,9 @@
 
 ghost use Rattle.sc_check.specs.Laws.{AcceptedRefute};
 ghost use Rattle.sc_check.specs.Printed.{ProofsArePrinted, PrintedAreAccepted, EachIsAnswered, ChecksAcceptPrinted};
+ghost use Rattle.sc_check.specs.Transcripts.{TranscriptsAreCopies, ChecksAcceptTranscripts};
 
+use sc_commands::codes_are_by_the_head;
 use sc_deriv::{accepts_closed_trees, closed_trees_refute};
 use sc_deriv_text::{items_have_tokens, texts_have_tokens};
 use sc_elab::elaboration_grows_bank;
@@ -42,4 +44,20 @@ pub fn printed_derivations_are_accepted()
     accepts_closed_trees();
     texts_have_tokens();
     items_have_tokens();
+}
+
+/// The responses to a script, solved with just verdicts and without an error, as a transcript: the
+/// derivations among their items are those with which its `(get-proof)`s are answered, in order. So
+/// the check of the script and this transcript accepts one derivation for each `(get-proof)`, and
+/// refuses none.
+pub fn transcripts_are_accepted()
+    ensures copies { TranscriptsAreCopies }
+    ensures checks { ChecksAcceptTranscripts }
+{
+    printed_derivations_are_accepted();
+    proofs_refute();
+    sessions_say_the_same();
+    texts_have_tokens();
+    items_have_tokens();
+    codes_are_by_the_head();
 }

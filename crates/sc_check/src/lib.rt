@@ -5,7 +5,8 @@
 //! it, and writes a line for each derivation there. `CheckEnds` of `specs/Ends.antt` says how it
 //! ends, and why; `tally` of `specs/Lines.antt` which lines there are. Where a derivation is
 //! accepted, its assertions are unsatisfiable ([`accepted_derivations_refute`]). What the same script
-//! prints where it is solved is accepted ([`printed_derivations_are_accepted`]).
+//! prints where it is solved is accepted ([`printed_derivations_are_accepted`]), and so
+//! are its responses as a whole ([`transcripts_are_accepted`]).
 #![tactic(auto)]
 
 mod checker;
@@ -19,7 +20,9 @@ mod laws;
 pub use checker::check_input;
 pub use ending::Ending;
 pub use finding::Finding;
-pub use laws::{accepted_derivations_refute, printed_derivations_are_accepted};
+pub use laws::{
+    accepted_derivations_refute, printed_derivations_are_accepted, transcripts_are_accepted,
+};
 
 #[cfg(test)]
 mod tests;

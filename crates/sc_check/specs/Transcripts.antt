@@ -1,0 +1,38 @@
+-- The responses to a script as the transcript of a check.
+use Rattle.std.specs.Prelude.{◌≡◌, ℕ, true, false, List, ◌∷◌, ◌++◌, length}
+use Rattle.std.specs.List.{AllByRecursion, AllZip, flat_map}
+use Rattle.sc_text.specs.Readings.{Reads, Whole}
+use Rattle.sc_sexpr.specs.Scans.{Piece}
+use Rattle.sc_sexpr.specs.View.{View}
+use Rattle.sc_deriv_text.specs.Sexpr.{plain, tokens_of}
+use Rattle.sc_deriv_text.specs.Spelling.{Fits}
+use Rattle.sc_tree.specs.declared.verdict.Verdict.{Verdict}
+use Rattle.sc_session.specs.Scripts.{Item, Script, IsTold, Reads as IsScript}
+use Rattle.sc_session.specs.Courses.{course_of, HasVerdicts}
+use Rattle.sc_check.specs.Lines.{Tally}
+use Rattle.sc_check.specs.Reports.{Judges}
+use Rattle.sc_check.specs.Printed.{proofs_of, IsCopyOf, derivations_in, all_accepted}
+
+-- some bytes have the tokens of the item
+abbrev pub IsToldItem : Item → Type 0
+IsToldItem i = (p : Piece) × IsTold p i
+
+-- The items are those of the text: their tokens, one after the other, are the text's.
+pub record AreItemsOf (text : List ℕ) (items : List Item) : Type 0 where
+  pub told : AllByRecursion IsToldItem items
+  pub tokens : Reads true text (flat_map (λ i. tokens_of (plain i.shape)) items) Whole
+
+-- The derivations among the items of the responses to a script that has no error are copies of those that its get-proofs are answered with, in order.
+abbrev pub TranscriptsAreCopies : Type 0
+TranscriptsAreCopies =
+    (text : List ℕ) (script : Script) → IsScript text script →
+    (budget : ℕ) (verdicts : List Verdict) → HasVerdicts budget script verdicts → (course_of script verdicts).fails ≡ false → AllByRecursion Fits (proofs_of script verdicts) →
+    (items : List Item) → AreItemsOf (course_of script verdicts).bytes items → AllZip IsCopyOf (proofs_of script verdicts) (derivations_in items)
+
+-- So where a check follows such a script without an error, and its responses are the transcript, one derivation for each get-proof is accepted, and none is refused.
+abbrev pub ChecksAcceptTranscripts : Type 0
+ChecksAcceptTranscripts =
+    (text : List ℕ) (script : Script) → IsScript text script →
+    (budget : ℕ) (verdicts : List Verdict) → HasVerdicts budget script verdicts → (course_of script verdicts).fails ≡ false → AllByRecursion Fits (proofs_of script verdicts) →
+    (v y : View) (t : Tally) (judges : Judges v t y) (behind : List Item) → script.items ≡ judges.follows.items ++ judges.leaves.i ∷ behind →
+    AreItemsOf (course_of script verdicts).bytes judges.items → t ≡ all_accepted (length judges.script.asked)
