@@ -9,7 +9,7 @@ ghost use Rattle.sc_branch.specs.Growing.{IsHeldAfter, IsOn};
 
 use crate::candidate::guessed_candidate;
 use crate::growth::Growing;
-use crate::guess::{Guessed, guess};
+use crate::guess::{Guessed, Stuck, guess};
 use crate::labels::labelled;
 use crate::refine::{needed_split, useful_split};
 use crate::spread::{Tables, spread};
@@ -145,7 +145,7 @@ impl Branch {
         alloc: Global,
         problem: &Problem,
         needed: Option<PlainStep>,
-        stuck: Option<u32>,
+        stuck: Option<Stuck>,
     ) -> Result<Option<PlainStep>, Memory>
         ensures { IfOk result (λ step. IfSome step (Divides problem.now self.now.path.facts)) }
     {

@@ -35,6 +35,8 @@ pub(crate) struct Column {
     guesses: Vec<Guess>,
     /// Whether two entries contradict each other.
     clash: bool,
+    /// The first set of one that the element was to be in, though the path does not say whether it equals the set's.
+    single: Option<u32>,
 }
 
 impl Column {
@@ -53,6 +55,7 @@ impl Column {
             settled: 0,
             guesses: Vec::new(alloc),
             clash: false,
+            single: None,
         })
     }
 
@@ -65,6 +68,12 @@ impl Column {
         self.settled = 0;
         self.guesses.truncate(0);
         self.clash = false;
+        self.single = None;
+    }
+
+    /// The first set of one that the element was to be in, though the path does not say whether it equals the set's.
+    pub(crate) fn single(&self) -> Option<u32> {
+        self.single
     }
 
     /// The set terms that have an entry, in the order in which they got it.
@@ -117,6 +126,16 @@ impl Column {
         Some(inside == place.inside)
     }
 
+    /// Notes that a clash came at a set, if it is a set of one of which the path says nothing.
+    fn note_single(&mut self, problem: &Problem, set: u32) {
+        if self.single.is_some() || self.entry(set).is_some() {
+            return;
+        }
+        if let Some(SetTerm::Single(_)) = problem.find_set(set) {
+            self.single = Some(set);
+        }
+    }
+
     /// Notes that this holds of the element.
     pub(crate) fn put(
         &mut self,
@@ -126,6 +145,7 @@ impl Column {
     ) -> Result<(), Memory> {
         if self.holds(problem, said, place) == Some(false) {
             self.clash = true;
+            self.note_single(problem, place.set);
             return Ok(());
         }
         if self.entry(place.set).is_none() {

@@ -9,13 +9,21 @@ use sc_rules::membership_of;
 use sc_terms::{Memory, Problem, SetTerm};
 use std::alloc::Global;
 
+/// An element whose memberships could not be completed.
+#[derive(Clone, Copy)]
+pub(crate) struct Stuck {
+    pub element: u32,
+    /// A set of one that the element was to be in, though the path does not say whether it equals the set's.
+    pub single: Option<u32>,
+}
+
 /// What was guessed beside a path.
 #[derive(Drop)]
 pub(crate) struct Guessed {
     /// Pairs of an element and a set constant in which it is to be, though the path does not say so.
     pub members: Vec<(u32, u32)>,
     /// The first element whose memberships could not be completed.
-    pub stuck: Option<u32>,
+    pub stuck: Option<Stuck>,
 }
 
 /// Whether the path puts an element into some set.
@@ -98,7 +106,10 @@ pub(crate) fn guess(
             if !guess_at(&mut members, &mut column, problem, path, tables, element)? {
                 return Ok(Guessed {
                     members,
-                    stuck: Some(element),
+                    stuck: Some(Stuck {
+                        element,
+                        single: column.single(),
+                    }),
                 });
             }
         }

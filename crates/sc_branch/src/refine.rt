@@ -1,6 +1,7 @@
 //! Which cuts look useful on a path that spreads no further. What is proposed here is judged before it is taken, so a bad choice costs time alone.
 
 use crate::growth::Growing;
+use crate::guess::Stuck;
 use crate::said::Said;
 use crate::spread::Tables;
 use sc_facts::{FactName, Path};
@@ -188,17 +189,35 @@ fn split_at(
     }
 }
 
+/// A cut on a membership of the element whose memberships could not be guessed: on that in a set of one that it was to be in, if there is one.
+fn split_where_stuck(
+    path: &Path,
+    tables: &Tables,
+    alloc: Global,
+    problem: &Problem,
+    stuck: Stuck,
+    marks: &mut [u32],
+) -> Result<Option<PlainStep>, Memory> {
+    let element = stuck.element;
+    if let Some(single) = stuck.single {
+        if membership_of(path, element, single).is_none() {
+            return Ok(Some(PlainStep::Cut(FactName::Member(element, single))));
+        }
+    }
+    split_at(path, tables, alloc, problem, element, marks)
+}
+
 /// A cut that may matter to whether sets are as the path says by the values that are read off it: on a membership of the element whose memberships could not be guessed, or else of another.
 pub(crate) fn useful_split(
     path: &Path,
     tables: &Tables,
     alloc: Global,
     problem: &Problem,
-    stuck: Option<u32>,
+    stuck: Option<Stuck>,
 ) -> Result<Option<PlainStep>, Memory> {
     let mut marks = no_marks(alloc, problem)?;
-    if let Some(element) = stuck {
-        let step = split_at(path, tables, alloc, problem, element, &mut marks)?;
+    if let Some(stuck) = stuck {
+        let step = split_where_stuck(path, tables, alloc, problem, stuck, &mut marks)?;
         if step.is_some() {
             return Ok(step);
         }
