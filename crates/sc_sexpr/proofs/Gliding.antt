@@ -4,13 +4,9 @@ use Rattle.sc_sexpr.specs.declared.state.State.{State}
 use Rattle.sc_sexpr.specs.declared.state.Move.TheVariants as move
 use Rattle.sc_sexpr.specs.declared.scan.Pass.{Pass}
 use Rattle.sc_sexpr.specs.Moves.{is_idle, move_of, Keeps}
-use Rattle.sc_sexpr.specs.Passes.{text_of, IsPlaced, Skips}
+use Rattle.sc_sexpr.specs.Passes.{text_of, IsPlaced, Skips, along}
 use Rattle.sc_sexpr.specs.Scans.{text_after}
 use Rattle.sc_sexpr.proofs.Going.{scan_goes, text_busy}
-
--- so many bytes further in another state, with the item at hand
-abbrev pub along : Pass → State → ℕ → Pass
-along p s n = record p { state = s; at = p.at + n; room = p.room - n }
 
 pub starts : (bytes : List ℕ) (p : Pass) → IsPlaced bytes p → is_idle p.state ≡ false → Skips bytes p (along p p.state 0)
 starts bytes p placed busy =

@@ -43,7 +43,7 @@ with_room r x y lt = ap (λ c. if c then x else y) (ne_eqb r 0 (λ e. omega arit
 no_room : (r : ℕ) (x y : Scan) → r ≡ 0 → (if r == 0 then x else y) ≡ x
 no_room r x y e = ap (λ c. if c then x else y) (eq-eqb r 0 e)
 
-scan-drop : (s : State) (text : List ℕ) (room : ℕ) (bytes : List ℕ) (at : ℕ) → at < length bytes → 0 < room → scan s text room (drop at bytes) ≡ scan_after (move_of s (get_or bytes at 0)) s text room (get_or bytes at 0) (drop (at + 1) bytes) (λ s' text'. scan s' text' (room - 1) (drop (at + 1) bytes))
+pub scan-drop : (s : State) (text : List ℕ) (room : ℕ) (bytes : List ℕ) (at : ℕ) → at < length bytes → 0 < room → scan s text room (drop at bytes) ≡ scan_after (move_of s (get_or bytes at 0)) s text room (get_or bytes at 0) (drop (at + 1) bytes) (λ s' text'. scan s' text' (room - 1) (drop (at + 1) bytes))
 unfolding scan
 scan-drop s text room bytes at lt some = rw (add-one, drop-cons bytes at 0) (with_room room _ _ some)
 

@@ -1,4 +1,6 @@
 pub mod Gliding
+pub mod Through
+pub mod Ends
 pub mod Going
 pub mod Skipping
 pub mod Showing

@@ -17,11 +17,11 @@ use Rattle.sc_sexpr.specs.Passes.{text_of, IsPlaced, IsResting, Follows, scan_fr
 use Rattle.sc_sexpr.specs.Scans.{text_after}
 use Rattle.sc_sexpr.proofs.Going.{part_none, scan_goes, text_idle, text_busy}
 
-taken : {A : Type 0} (c : Bool) (x y : A) → c ≡ true → (if c then x else y) ≡ x
+pub taken : {A : Type 0} (c : Bool) (x y : A) → c ≡ true → (if c then x else y) ≡ x
 taken true x y e = refl
 taken false x y e = cc
 
-left_out : {A : Type 0} (c : Bool) (x y : A) → c ≡ false → (if c then x else y) ≡ y
+pub left_out : {A : Type 0} (c : Bool) (x y : A) → c ≡ false → (if c then x else y) ≡ y
 left_out true x y e = cc
 left_out false x y e = refl
 
@@ -30,7 +30,7 @@ no_feed_by : (x : Bool) (p : ℕ → Bool) (b : ℕ) → (b == 10) ≡ x → p 1
 no_feed_by true p b e h there = let same : b ≡ 10 = eqb-true b 10 e in let not : p b ≡ false = ap p same ∙ h in cc
 no_feed_by false p b e h there = e
 
-no_feed : (p : ℕ → Bool) (b : ℕ) → p 10 ≡ false → p b ≡ true → (b == 10) ≡ false
+pub no_feed : (p : ℕ → Bool) (b : ℕ) → p 10 ≡ false → p b ≡ true → (b == 10) ≡ false
 no_feed p b = no_feed_by (b == 10) p b refl
 
 stays_feed : (m : Mode) → stays m 10 ≡ false
@@ -52,10 +52,10 @@ stays_feed mode.Binary = refl
 stays_feed mode.Colon = refl
 stays_feed mode.LiteralQuote = refl
 
-line_stays : (s : State) (b : ℕ) → (b == 10) ≡ false → line_after s b ≡ s.line
+pub line_stays : (s : State) (b : ℕ) → (b == 10) ≡ false → line_after s b ≡ s.line
 line_stays s b e = left_out (b == 10) (s.line + 1) s.line e
 
-same_state : (s : State) (c : Bool) (l : ℕ) → c ≡ s.comment → l ≡ s.line → (let t : State = record s { comment = c; line = l } in t) ≡ s
+pub same_state : (s : State) (c : Bool) (l : ℕ) → c ≡ s.comment → l ≡ s.line → (let t : State = record s { comment = c; line = l } in t) ≡ s
 same_state s c l e f =
     ap (λ (x : Bool). let t : State = record s { comment = x; line = l } in t) e
     ∙ ap (λ (x : ℕ). let t : State = record s { line = x } in t) f
@@ -71,7 +71,7 @@ blank_white false true z w e = refl
 blank_white false false true w e = refl
 blank_white false false false w e = e
 
-between_tokens : (s : State) (b : ℕ) → s.comment ≡ false → is_start s.mode ≡ true → is_blank b ≡ true → move_of s b ≡ move.Go s
+pub between_tokens : (s : State) (b : ℕ) → s.comment ≡ false → is_start s.mode ≡ true → is_blank b ≡ true → move_of s b ≡ move.Go s
 unfolding move_of fresh
 between_tokens s b c start e =
     left_out s.comment _ _ c ∙ taken (is_start s.mode) _ _ start

@@ -1,7 +1,11 @@
 -- What the code says of a pass over the bytes that a splitter holds.
-use Rattle.std.specs.Prelude.{◌≡◌, ℕ, ◌+◌, ◌-◌, ◌≤◌, Bool, true, ◌||◌, ◌==◌, not, if◌then◌else◌, List, take, drop, length}
-use Rattle.sc_text.specs.Bytes.{is_break}
-use Rattle.sc_text.specs.Modes.{is_start, stays}
+use Rattle.std.specs.Prelude.{◌≡◌, ℕ, ◌+◌, ◌-◌, ◌<◌, ◌≤◌, Bool, true, false, ◌||◌, ◌==◌, not, if◌then◌else◌, List, take, drop, length, get_or}
+use Rattle.sc_text.specs.declared.token.Kind.{Kind}
+use Rattle.sc_text.specs.declared.mode.Mode.{Mode}
+use Rattle.sc_text.specs.declared.mode.Mode.TheVariants as mode
+use Rattle.sc_text.specs.declared.mode.Step.TheVariants as step
+use Rattle.sc_text.specs.Bytes.{is_break, is_symbol_byte}
+use Rattle.sc_text.specs.Modes.{is_start, stays, step_of}
 use Rattle.sc_sexpr.specs.declared.state.State.{State}
 use Rattle.sc_sexpr.specs.declared.scan.Pass.{Pass}
 use Rattle.sc_sexpr.specs.declared.scan.Found.{Found}
@@ -77,3 +81,39 @@ pub record Skips (bytes : List ℕ) (old new : Pass) : Type 0 where
   pub resting : IsResting new
   pub follows : Follows bytes old new
   pub order : old.at ≤ new.at
+
+-- so many bytes further in another state, with the item at hand
+abbrev pub along : Pass → State → ℕ → Pass
+along p s n = record p { state = s; at = p.at + n; room = p.room - n }
+
+-- a simple symbol or a numeral stands from one place up to another, and the byte there ends it
+pub record IsToken (bytes : List ℕ) (at end : ℕ) : Type 0 where
+  pub reached : Mode
+  pub made : Kind
+  pub order : at < end
+  pub within : end < length bytes
+  pub begun : is_start reached ≡ false
+  pub begins : step_of mode.Start (get_or bytes at 0) ≡ step.Go reached
+  pub goes : (i : ℕ) → at < i → i < end → step_of reached (get_or bytes i 0) ≡ step.Go reached
+  pub stops : step_of reached (get_or bytes end 0) ≡ step.Stop made
+  pub symbols : (i : ℕ) → at ≤ i → i < end → is_symbol_byte (get_or bytes i 0) ≡ true
+
+-- a place between the tokens of a list
+pub record IsBetween (s : State) : Type 0 where
+  pub comment : s.comment ≡ false
+  pub start : is_start s.mode ≡ true
+  pub inside : (s.depth == 0) ≡ false
+
+-- the bytes from a pass on, as many as may be read
+pub record AreNext (bytes : List ℕ) (p : Pass) (rest : List ℕ) : Type 0 where
+  pub placed : IsPlaced bytes p
+  pub same : (i : ℕ) → i < length rest → get_or bytes (p.at + i) 0 ≡ get_or rest i 0
+  pub within : p.at + length rest ≤ length bytes
+  pub room : length rest ≤ p.room
+
+-- further between the tokens of the list, and nothing is passed over but bytes with which it goes on
+pub record Glides (rest : List ℕ) (s : State) (n : ℕ) (next : State × ℕ) : Type 0 where
+  pub between : IsBetween next.0
+  pub order : n < next.1
+  pub within : next.1 ≤ length rest
+  pub skips : (bytes : List ℕ) (p : Pass) → AreNext bytes p rest → Skips bytes p (along p s n) → Skips bytes p (along p next.0 next.1)

@@ -11,6 +11,7 @@
 //! ([`trees_are_told`]).
 #![tactic(auto)]
 
+mod glide;
 mod item;
 mod laws;
 mod scan;

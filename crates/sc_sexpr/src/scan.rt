@@ -1,7 +1,7 @@
 //! A pass over the bytes that a splitter holds.
 
 ghost use Rattle.std.specs.Prelude.{◌≡◌, ◌+◌, ◌-◌, ◌<◌, ◌≤◌, ◌^◌, ℕ, List, false, if◌then◌else◌, length, slice_index};
-ghost use Rattle.sc_sexpr.specs.Passes.{IsPlaced, IsResting, Finds, Skips, ends_before, found_past, scan_from, text_of, moved};
+ghost use Rattle.sc_sexpr.specs.Passes.{IsPlaced, IsResting, IsBetween, Finds, Skips, ends_before, found_past, scan_from, text_of, moved};
 ghost use Rattle.sc_sexpr.specs.Moves.{is_idle, move_of};
 ghost use Rattle.sc_sexpr.specs.Scans.{text_after};
 
@@ -154,8 +154,8 @@ impl Pass {
         }
     }
 
-    /// Behind the bytes from here on with which the item at hand goes on, or as many of them as may
-    /// be read.
+    /// Behind the bytes from here on that leave the state as it is, or with which the list at hand
+    /// goes on.
     #[inline(always)]
     fn along(self, bytes: &[u8]) -> Pass
         requires placed { IsPlaced bytes.now self }
@@ -163,16 +163,28 @@ impl Pass {
         requires lines { self.state.line + self.room + 1 < 2 ^ 64 }
         ensures { Skips bytes.now self result }
     {
-        let (_, rest) = bytes.split_at(self.at);
-        let most = lesser(self.room, rest.len());
+        if self.state.is_between() {
+            self.glide(bytes)
+        } else {
+            self.skipped(bytes)
+        }
+    }
+
+    /// Behind the parentheses, the white space and the simple symbols and numerals that come next in
+    /// the list at hand, as far as their ends can be seen.
+    fn glide(self, bytes: &[u8]) -> Pass
+        requires placed { IsPlaced bytes.now self }
+        requires between { IsBetween self.state }
+        requires lines { self.state.line + self.room + 1 < 2 ^ 64 }
+        ensures { Skips bytes.now self result }
+    {
+        let (_, unread) = bytes.split_at(self.at);
+        let (rest, _) = unread.split_at(lesser(self.room, unread.len()));
         let mut state = self.state;
         let mut count = 0;
-        while count < most {
-            match state.step(rest[count]) {
-                Move::Go(next) => state = next,
-                _ => break,
-            }
-            count += 1;
+        while let Some((next, behind)) = state.glides(rest, count) {
+            state = next;
+            count = behind;
         }
         Pass {
             state,

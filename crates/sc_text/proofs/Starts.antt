@@ -13,7 +13,7 @@ use Rattle.sc_text.specs.Modes.{step_of, run, stays}
 use Rattle.sc_text.proofs.Walks.{further, run_begins, run_goes, run_spans, run_stops, run_ends, passes}
 
 -- a byte with a property that another lacks is not that one
-other : (p : ℕ → Bool) (b k : ℕ) → p b ≡ true → p k ≡ false → (b == k) ≡ false
+pub other : (p : ℕ → Bool) (b k : ℕ) → p b ≡ true → p k ≡ false → (b == k) ≡ false
 other p b k here there = by (b == k) refl
   where
     by : (t : Bool) → (b == k) ≡ t → t ≡ false
@@ -48,14 +48,14 @@ no_zero b d = by (b == 48) refl
     by false e = refl
 
 -- a symbol byte that is no digit begins a symbol
-begins_symbol : (b : ℕ) → is_symbol_byte b ≡ true → is_digit b ≡ false → step_of mode.Start b ≡ step.Go mode.Symbol
+pub begins_symbol : (b : ℕ) → is_symbol_byte b ≡ true → is_digit b ≡ false → step_of mode.Start b ≡ step.Go mode.Symbol
 unfolding step_of
 begins_symbol b s d =
     let n : IsNoOther b = symbol_no_other b s in
     rw (n.left, n.right, n.literal, n.bar, n.colon, n.hash, no_zero b d, d, s) refl
 
 -- a digit but 0 begins a numeral
-begins_digits : (b : ℕ) → is_digit b ≡ true → (b == 48) ≡ false → step_of mode.Start b ≡ step.Go mode.Digits
+pub begins_digits : (b : ℕ) → is_digit b ≡ true → (b == 48) ≡ false → step_of mode.Start b ≡ step.Go mode.Digits
 unfolding step_of
 begins_digits b d z =
     rw (other is_digit b 40 d refl, other is_digit b 41 d refl, other is_digit b 34 d refl, other is_digit b 124 d refl, other is_digit b 58 d refl, other is_digit b 35 d refl, z, d) refl
@@ -67,7 +67,7 @@ behind_first m (x ∷ xs) b is goes =
     let same : x ≡ b = cc in
     run_goes _ mode.Start m (x ∷ xs) 0 (omega arith) (run_begins (x ∷ xs)) (ap (step_of mode.Start) same ∙ goes)
 
-symbol_stops : (b : ℕ) → is_symbol_byte b ≡ false → step_of mode.Symbol b ≡ step.Stop kind.Word
+pub symbol_stops : (b : ℕ) → is_symbol_byte b ≡ false → step_of mode.Symbol b ≡ step.Stop kind.Word
 unfolding step_of
 symbol_stops b e = rw e refl
 
@@ -88,7 +88,7 @@ word_takes bytes b len first s d is lt =
 pub word_ends : (bytes : List ℕ) (b len : ℕ) → slice_get bytes 0 ≡ Some b → is_symbol_byte b ≡ true → is_digit b ≡ false → len ≡ 1 + prefix_len (stays mode.Symbol) (drop 1 bytes) → len ≡ length bytes → Ends (length bytes) mode.Symbol ≡ run mode.Start bytes
 word_ends bytes b len first s d is all = sym (run_ends _ mode.Symbol bytes len all (symbol_run bytes b len first s d is))
 
-digit_goes : (b : ℕ) → is_digit b ≡ true → step_of mode.Digits b ≡ step.Go mode.Digits
+pub digit_goes : (b : ℕ) → is_digit b ≡ true → step_of mode.Digits b ≡ step.Go mode.Digits
 unfolding step_of
 digit_goes b d = rw d refl
 
@@ -101,7 +101,7 @@ no_dot b s = by (b == 46) refl
     by false e = refl
 
 -- a byte behind digits that no symbol may hold ends the numeral
-digits_stop : (b : ℕ) → is_digit b ≡ false → is_symbol_byte b ≡ false → step_of mode.Digits b ≡ step.Stop kind.Numeral
+pub digits_stop : (b : ℕ) → is_digit b ≡ false → is_symbol_byte b ≡ false → step_of mode.Digits b ≡ step.Stop kind.Numeral
 unfolding step_of
 digits_stop b d s = rw (d, no_dot b s, s) refl
 

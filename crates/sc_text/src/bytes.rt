@@ -19,8 +19,9 @@ pub fn is_break(byte: u8) -> bool
     matches!(byte, b'\n' | b'\r')
 }
 
+/// Whether the byte is a decimal digit.
 #[inline(always)]
-pub(crate) fn is_digit(byte: u8) -> bool
+pub fn is_digit(byte: u8) -> bool
     ensures { result ≡ is_digit byte }
 {
     byte.is_ascii_digit()

@@ -57,7 +57,7 @@ fn gap_step(comment: bool, byte: u8) -> Option<bool>
     }
 }
 
-/// Whether a token, or nothing, stands at the front.
+/// Whether a byte between tokens belongs to no gap.
 #[inline(always)]
 fn is_token_byte(byte: u8) -> bool
     ensures { result ≡ is_none (gap_step false byte) }
@@ -130,9 +130,9 @@ fn word_at(bytes: &[u8], first: u8) -> Run
     }
 }
 
-/// How many digits stand at the front.
+/// How many of the first bytes are decimal digits, up to the first that is none.
 #[inline(always)]
-fn digits_at(bytes: &[u8]) -> usize
+pub fn digits_at(bytes: &[u8]) -> usize
     ensures count { result ≡ prefix_len is_digit bytes.now }
     ensures within { result ≤ length bytes.now }
 {

@@ -19,9 +19,9 @@ mod mode;
 mod names;
 mod token;
 
-pub use bytes::{is_break, is_symbol_byte, is_white};
+pub use bytes::{is_break, is_digit, is_symbol_byte, is_white};
 pub use code::Code;
-pub use front::{Front, Gap, Run};
+pub use front::{Front, Gap, Run, digits_at};
 pub use laws::{
     fronts_are_settled, gaps_are_passed_over, runs_read_texts, texts_read_once,
     tokens_are_quotations, tokens_are_slices, tokens_are_stretches, tokens_split_texts,
