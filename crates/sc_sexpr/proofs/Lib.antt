@@ -22,3 +22,5 @@ pub mod Stopping
 pub mod Closing
 pub mod Walked
 pub mod Cutting
+pub mod Prefixes
+pub mod Joining

@@ -69,7 +69,7 @@ begins_by (b ∷ bs) xs k n is f =
 begins : (xs : List ℕ) (k : Kind) (n : ℕ) → front true xs ≡ Found k n → Begins xs k n
 begins xs k n f = begins_by (after_gap xs) xs k n refl f
 
-token_fits : (xs : List ℕ) (k : Kind) (n : ℕ) → front true xs ≡ Found k n → n ≤ length (after_gap xs)
+pub token_fits : (xs : List ℕ) (k : Kind) (n : ℕ) → front true xs ≡ Found k n → n ≤ length (after_gap xs)
 token_fits xs k n f = let b : Begins xs k n = begins xs k n f in omega (arith, b.fits, ap (length {A = ℕ}) b.is)
 
 -- A token that the limit cuts off.

@@ -7,4 +7,5 @@ pub mod Shapes
 pub mod Trees
 pub mod Spots
 pub mod Walk
+pub mod Given
 pub mod Lines

@@ -1,5 +1,6 @@
 //! Laws of the definitions.
 
+ghost use Rattle.sc_sexpr.specs.Given.{HaveAllTokens};
 ghost use Rattle.sc_sexpr.specs.Laws.{IsReader, AreItems, AreCut};
 ghost use Rattle.sc_sexpr.specs.Trees.{AreTold};
 ghost use Rattle.sc_sexpr.specs.Walk.{AreWalked};
@@ -30,4 +31,11 @@ pub fn items_are_walked()
 /// Where a text is longer than its limit, its items and its end are the same whatever follows it.
 pub fn long_texts_are_cut()
     ensures { AreCut }
+{}
+
+/// The items of a text without a fault have all of its tokens: those of the items, one after the
+/// other, are those of the text. What a splitter that stands between items gives to the end has, in
+/// the same way, all tokens of the bytes that it had not read.
+pub fn items_have_all_tokens()
+    ensures { HaveAllTokens }
 {}
