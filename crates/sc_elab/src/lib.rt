@@ -1,4 +1,9 @@
 //! From the terms and sorts of SMT-LIB 2.6 scripts to core formulas in the bank, and to sorts.
+//!
+//! [`elaborate`] gives the core formula of a term, or the term's first fault, depth first and from
+//! left to right: `core` of `specs/Elab.antt` says which. Under every interpretation the formula
+//! has the truth value of the term ([`elaboration_keeps_meaning`]). [`read_sort`] gives the sort
+//! that a tree spells, or its first fault.
 #![tactic(auto)]
 
 mod apply;

@@ -7,7 +7,8 @@ use crate::sink::{Sink, Wrote};
 use crate::source::{Got, Source};
 use std::io::{Read, Write};
 
-/// A reader of std. Each error that it gives is a fault, and the count of them stops at 2^64 - 1.
+/// A reader of std. Each error that it gives is a fault, an interrupted read
+/// (`ErrorKind::Interrupted`) too, and the count of them stops at 2^64 - 1.
 ///
 /// This is a trusted edge. No clause of [`Read`] tells when a read gives an error, so that
 /// `Failed` comes exactly where the one read of the reader did is shown by a test.

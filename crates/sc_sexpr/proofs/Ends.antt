@@ -6,7 +6,6 @@ use Rattle.std.proofs.lemmas.List.Sums.{prefix_len_passes, prefix_len_stops}
 use Rattle.sc_text.specs.declared.token.Kind.TheVariants as kind
 use Rattle.sc_text.specs.declared.mode.Mode.TheVariants as mode
 use Rattle.sc_text.specs.Bytes.{is_letter, is_digit, is_mark, is_symbol_byte}
-use Rattle.sc_text.specs.Modes.{stays}
 use Rattle.sc_text.proofs.Starts.{begins_symbol, begins_digits, symbol_stops, digit_goes, digits_stop}
 use Rattle.sc_text.proofs.Walks.{stays_goes}
 use Rattle.sc_sexpr.specs.Passes.{IsToken}

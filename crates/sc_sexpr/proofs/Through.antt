@@ -12,11 +12,11 @@ use Rattle.sc_sexpr.specs.declared.state.State.{State}
 use Rattle.sc_sexpr.specs.declared.state.Move.{Move}
 use Rattle.sc_sexpr.specs.declared.state.Move.TheVariants as move
 use Rattle.sc_sexpr.specs.declared.scan.Pass.{Pass}
-use Rattle.sc_sexpr.specs.Moves.{is_idle, closed, line_after, line_of_item, begins, continues, fresh, move_of, Keeps}
+use Rattle.sc_sexpr.specs.Moves.{is_idle, closed, line_after, begins, continues, fresh, move_of, Keeps}
 use Rattle.sc_sexpr.specs.Scans.{Scan, scan, scan_after}
-use Rattle.sc_sexpr.specs.Passes.{text_of, scan_from, is_blank, IsPlaced, Skips, along, IsToken, IsBetween, AreNext, Glides}
+use Rattle.sc_sexpr.specs.Passes.{text_of, is_blank, IsPlaced, Skips, along, IsToken, IsBetween, AreNext, Glides}
 use Rattle.sc_sexpr.proofs.Going.{scan-drop}
-use Rattle.sc_sexpr.proofs.Skipping.{taken, left_out, no_feed, line_stays, between_tokens}
+use Rattle.sc_sexpr.proofs.Skipping.{taken, left_out, line_stays, between_tokens}
 use Rattle.sc_sexpr.proofs.Gliding.{goes}
 
 busy : (s : State) → (s.depth == 0) ≡ false → is_idle s ≡ false

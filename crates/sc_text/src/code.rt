@@ -21,7 +21,7 @@ pub enum Code {
     E6,
     /// `wrong sort or number of arguments`: of an application, an assertion or a definition's body.
     E7,
-    /// `outside the profile`: a command, sort, operator or token that is left out.
+    /// `outside the profile`: a command, sort, operator or token that is left out or isn't done.
     E8,
     /// `name already declared or reserved`: in a declaration, a definition or a binding.
     E9,

@@ -24,7 +24,7 @@ const GENERAL_WORDS: [&str; 13] = [
     "STRING",
 ];
 
-/// The commands that are done.
+/// The commands of the language of scripts.
 const COMMANDS: [&str; 21] = [
     "set-logic",
     "set-info",
@@ -122,7 +122,8 @@ fn is_among(name: &[u8], words: &[&str]) -> bool
     words.iter().any(|word| is_word(name, word))
 }
 
-/// Whether the word names a command that is done.
+/// Whether the word names a command of the language of scripts. Not each of them is done: one that
+/// isn't is refused with [`Code::E8`](crate::Code::E8) where it is read.
 pub fn is_command(word: &[u8]) -> bool
     ensures { result ≡ is_command word.now }
 {

@@ -1,4 +1,4 @@
-use Rattle.std.proofs.Common.{rules, length, ap, sym, ◌∙◌, arith, ◌≡◌, ◌<◌, drop, get_or, subst, false, ℕ, List}
+use Rattle.std.proofs.Common.{rules, length, ap, sym, ◌∙◌, ◌≡◌, ◌<◌, drop, get_or, subst, false, ℕ, List}
 use Rattle.std.specs.List.{prefix_len}
 use Rattle.sc_text.specs.Bytes.{is_digit, is_symbol_byte}
 use Rattle.sc_sexpr.proofs.Ends.{numeral_ends_at}

@@ -1,4 +1,4 @@
-use Rattle.std.proofs.Common.{length, ap, ◌∙◌, arith, ◌≡◌, ◌<◌, drop, subst, ℕ}
+use Rattle.std.proofs.Common.{length, ap, ◌∙◌, ◌≡◌, ◌<◌, drop, subst, ℕ}
 use Rattle.std.specs.List.{prefix_len}
 use Rattle.sc_text.specs.Bytes.{is_symbol_byte}
 use Rattle.sc_sexpr.proofs.Ends.{word_ends_at}

@@ -1,4 +1,4 @@
-use Rattle.std.proofs.Common.{rules, length, ap, sym, ◌∙◌, arith, ◌≡◌, ◌<◌, get_or, true, ℕ}
+use Rattle.std.proofs.Common.{rules, length, ap, ◌∙◌, ◌≡◌, ◌<◌, get_or, true}
 use Rattle.sc_sexpr.specs.Passes.{is_blank}
 use Rattle.sc_sexpr.proofs.Through.{left_glides, right_glides, feed_glides, blank_glides}
 use Rattle.sc_sexpr.proofs.state.State.glides.Goals as goal

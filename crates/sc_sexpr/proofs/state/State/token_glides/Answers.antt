@@ -1,4 +1,4 @@
-use Rattle.std.proofs.Common.{ap, sym, subst, ℕ}
+use Rattle.std.proofs.Common.{sym, subst, ℕ}
 use Rattle.sc_sexpr.specs.declared.state.State.{State}
 use Rattle.sc_sexpr.specs.Passes.{Glides}
 use Rattle.sc_sexpr.proofs.Through.{token_glides}
