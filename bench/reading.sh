@@ -43,7 +43,8 @@ alone() {
   split=$(best "$2" "$reader" split)
   lex=$(best "$2" "$reader" lex)
   awk -v n="$1" -v read="$read" -v split="$split" -v lex="$lex" -v size="$(stat -c %s "$2")" \
-    'BEGIN { printf "%-44s split %7.1f MB/s   lex %7.1f MB/s\n", n, size / (split - read), size / (lex - read) }'
+    'function speed(us) { return us > read ? sprintf("%7.1f MB/s", size / (us - read)) : "no time measured" }
+    BEGIN { printf "%-44s split %s   lex %s\n", n, speed(split), speed(lex) }'
 }
 for input in blanks comments list deep symbols commands echoes; do
   alone "  $input" "$work/$input"
