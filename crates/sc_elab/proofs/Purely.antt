@@ -1,5 +1,5 @@
--- A bank stays pure as terms are elaborated.
-use Rattle.std.proofs.Common.{◌≡◌, ℕ, suc, Bool, true, false, List, [], ◌∷◌, ◌++◌, Option, Some, None, subst}
+-- A bank stays pure as terms are elaborated, and begins as it did, also where they are refused.
+use Rattle.std.proofs.Common.{◌≡◌, ℕ, suc, Bool, true, false, List, [], ◌∷◌, ◌++◌, Option, Some, None, sym, ap, ◌∙◌, subst, append_assoc, append-nil}
 use Rattle.std.specs.Prelude.{if◌then◌else◌, Result, Ok, Err}
 use Rattle.sc_text.specs.declared.code.Code.{Code}
 use Rattle.sc_text.specs.declared.code.Code.TheVariants as code
@@ -16,7 +16,7 @@ use Rattle.sc_terms.specs.declared.nodes.SetTerm.TheVariants as sets
 use Rattle.sc_terms.specs.declared.nodes.Element.TheVariants as elements
 use Rattle.sc_terms.specs.declared.nodes.Sort.{Sort}
 use Rattle.sc_terms.specs.declared.nodes.Sort.TheVariants as sorts
-use Rattle.sc_terms.specs.Bank.{has_node, takes, number_of, with_node, limit}
+use Rattle.sc_terms.specs.Bank.{Begins, has_node, takes, number_of, with_node, limit}
 use Rattle.sc_terms.specs.Same.{same_sort}
 use Rattle.sc_stack.specs.declared.stack.Named.{Named}
 use Rattle.sc_stack.specs.declared.stack.Named.TheVariants as named
@@ -36,221 +36,230 @@ use Rattle.sc_elab.specs.States.{State, Outcome, Done, Fault, bind, each, put, p
 use Rattle.sc_elab.specs.Builds.{negation, disjunction, from_left, from_right, equal, difference, exclusive_or, equation, neighbours, pairs, conjoined, conjunction, chain, apart, choice, single, union, joined, inclusion, build}
 use Rattle.sc_elab.specs.Elab.{meant, leaf_formula, leaf_value, constant, empty_set, first_sort, sort_made, named_term, word_term, name_term, token_term, numbers, deepest, application_fault, built, apply, list_term, term, behind_head, terms, need_bool, core}
 use Rattle.sc_sorts.specs.Pure.{IsPureFormula, IsPureNode, IsPureBank}
+-- ---- what is true of a bank, and stays so where a node without integers is put behind it
+module _ (Is : List Node → Type 0) (more : (bank : List Node) (x : Node) → Is bank → IsPureNode x → Is (bank ++ x ∷ [])) where
+  -- so it is of the bank behind, whatever the outcome
+  abbrev Keeps : {A : Type 0} → Outcome A → Type 0
+  Keeps (Done a bank) = Is bank
+  Keeps (Fault fault bank) = Is bank
 
--- the bank behind is pure, whatever the outcome
-abbrev Keeps : {A : Type 0} → Outcome A → Type 0
-Keeps (Done a bank) = IsPureBank bank
-Keeps (Fault fault bank) = IsPureBank bank
+  keeps_bind : {A B : Type 0} (o : Outcome A) (k : A → List Node → Outcome B) → Keeps o → ((a : A) (bank : List Node) → Is bank → Keeps (k a bank)) → Keeps (bind o k)
+  keeps_bind (Done a bank) k h next = next a bank h
+  keeps_bind (Fault fault bank) k h next = h
 
-keeps_bind : {A B : Type 0} (o : Outcome A) (k : A → List Node → Outcome B) → Keeps o → ((a : A) (bank : List Node) → IsPureBank bank → Keeps (k a bank)) → Keeps (bind o k)
-keeps_bind (Done a bank) k h next = next a bank h
-keeps_bind (Fault fault bank) k h next = h
+  keeps_each : {X A : Type 0} (f : X → List Node → Outcome A) → ((x : X) (bank : List Node) → Is bank → Keeps (f x bank)) → (xs : List X) (bank : List Node) → Is bank → Keeps (each f xs bank)
+  keeps_each f one [] bank h = h
+  keeps_each f one (x ∷ xs) bank h =
+      keeps_bind (f x bank) (λ a b. bind (each f xs b) (λ more c. Done (a ∷ more) c)) (one x bank h)
+      (λ a b k. keeps_bind (each f xs b) (λ more c. Done (a ∷ more) c) (keeps_each f one xs b k) (λ more c l. l))
 
-keeps_each : {X A : Type 0} (f : X → List Node → Outcome A) → ((x : X) (bank : List Node) → IsPureBank bank → Keeps (f x bank)) → (xs : List X) (bank : List Node) → IsPureBank bank → Keeps (each f xs bank)
-keeps_each f one [] bank h = h
-keeps_each f one (x ∷ xs) bank h =
-    keeps_bind (f x bank) (λ a b. bind (each f xs b) (λ more c. Done (a ∷ more) c)) (one x bank h)
-    (λ a b k. keeps_bind (each f xs b) (λ more c. Done (a ∷ more) c) (keeps_each f one xs b k) (λ more c l. l))
+  -- ---- nodes that are put
+  keeps_put : (x : Node) (bank : List Node) → IsPureNode x → Is bank → Keeps (put x bank)
+  keeps_put x bank p h = by (takes bank x) where
+    with : (b : Bool) → Is (if b then bank else bank ++ x ∷ [])
+    with true = h
+    with false = more bank x h p
 
--- ---- nodes that are put
+    by : (b : Bool) → Keeps (if b then Done (number_of bank x) (with_node bank x) else Fault (code.E16 limit) bank)
+    by true = with (has_node bank x)
+    by false = h
+
+  keeps_formula : (f : Formula) (bank : List Node) → IsPureFormula f → Is bank → Keeps (put_formula f bank)
+  keeps_formula f bank p h = keeps_put (nodes.Formula f) bank p h
+
+  -- ---- formulas of operators
+  keeps_set : (s : SetTerm) (bank : List Node) → Is bank → Keeps (put_set s bank)
+  keeps_set s bank h = keeps_put (nodes.Set s) bank tt h
+
+  keeps_left : (two : ℕ → ℕ → List Node → Outcome ℕ) → ((x y : ℕ) (bank : List Node) → Is bank → Keeps (two x y bank)) → (x : ℕ) (ys : List ℕ) (bank : List Node) → Is bank → Keeps (from_left two x ys bank)
+  keeps_left two each_two x [] bank h = h
+  keeps_left two each_two x (y ∷ ys) bank h = keeps_bind (two x y bank) (λ n b. from_left two n ys b) (each_two x y bank h) (λ n b i. keeps_left two each_two n ys b i)
+
+  keeps_right : (one : ℕ → List Node → Outcome ℕ) (two : ℕ → ℕ → List Node → Outcome ℕ) → ((x : ℕ) (bank : List Node) → Is bank → Keeps (one x bank)) → ((x y : ℕ) (bank : List Node) → Is bank → Keeps (two x y bank)) → (xs : List ℕ) (bank : List Node) → Is bank → Keeps (from_right one two xs bank)
+  keeps_right one two each_one each_two [] bank h = h
+  keeps_right one two each_one each_two (x ∷ []) bank h = h
+  keeps_right one two each_one each_two (x ∷ y ∷ ys) bank h =
+      keeps_bind (one x bank) (λ n b. bind (from_right one two (y ∷ ys) b) (λ m c. two n m c)) (each_one x bank h)
+      (λ n b i. keeps_bind (from_right one two (y ∷ ys) b) (λ m c. two n m c) (keeps_right one two each_one each_two (y ∷ ys) b i) (λ m c j. each_two n m c j))
+
+  pure_equal : (sort : Sort) (x y : ℕ) → IsPureFormula (equal sort x y)
+  pure_equal sorts.Bool x y = tt
+  pure_equal sorts.Int x y = tt
+  pure_equal (sorts.Named k) x y = tt
+  pure_equal sorts.SetInt x y = tt
+  pure_equal (sorts.SetNamed k) x y = tt
+
+  keeps_equation : (sort : Sort) (p : ℕ × ℕ) (bank : List Node) → Is bank → Keeps (equation sort p bank)
+  keeps_equation sort p bank h = keeps_formula (equal sort p.0 p.1) bank (pure_equal sort p.0 p.1) h
+
+  keeps_difference : (sort : Sort) (p : ℕ × ℕ) (bank : List Node) → Is bank → Keeps (difference sort p bank)
+  keeps_difference sort p bank h =
+      keeps_bind (equation sort p bank) (λ n b. put_formula (formulas.Not n) b) (keeps_equation sort p bank h)
+      (λ n b i. keeps_formula (formulas.Not n) b tt i)
+
+  keeps_joined : (join : Join) (s t : ℕ) (bank : List Node) → Is bank → Keeps (joined join s t bank)
+  keeps_joined joins.Union s t bank h = keeps_set (sets.Union s t) bank h
+  keeps_joined joins.Inter s t bank h = keeps_set (sets.Inter s t) bank h
+
+  keeps_inclusion : (sort : Sort) (s t : ℕ) (bank : List Node) → Is bank → Keeps (inclusion sort s t bank)
+  keeps_inclusion sort s t bank h =
+      keeps_bind (put_set (sets.Minus s t) bank) (λ m b1. bind (put_set (sets.Empty sort) b1) (λ e b2. put_formula (formulas.EqSet m e) b2)) (keeps_set (sets.Minus s t) bank h)
+      (λ m b1 i. keeps_bind (put_set (sets.Empty sort) b1) (λ e b2. put_formula (formulas.EqSet m e) b2) (keeps_set (sets.Empty sort) b1 i)
+      (λ e b2 j. keeps_formula (formulas.EqSet m e) b2 tt j))
+
+  keeps_conjunction : (fs : List ℕ) (bank : List Node) → Is bank → Keeps (conjunction fs bank)
+  keeps_conjunction [] bank h = keeps_formula (formulas.And []) bank tt h
+  keeps_conjunction (f ∷ []) bank h = h
+  keeps_conjunction (f ∷ g ∷ fs) bank h = keeps_formula (formulas.And (f ∷ g ∷ fs)) bank tt h
+
+  keeps_chain : (sort : Sort) (x : ℕ) (xs : List ℕ) (bank : List Node) → Is bank → Keeps (chain sort x xs bank)
+  keeps_chain sort x xs bank h = keeps_bind (each (equation sort) (neighbours (x ∷ xs)) bank) conjunction (keeps_each (equation sort) (keeps_equation sort) (neighbours (x ∷ xs)) bank h) keeps_conjunction
+
+  keeps_apart : (sort : Sort) (xs : List ℕ) (bank : List Node) → Is bank → Keeps (apart sort xs bank)
+  keeps_apart sort xs bank h = keeps_bind (each (difference sort) (pairs xs) bank) conjunction (keeps_each (difference sort) (keeps_difference sort) (pairs xs) bank h) keeps_conjunction
+
+  keeps_choice : (c f g : ℕ) (bank : List Node) → Is bank → Keeps (choice c f g bank)
+  keeps_choice c f g bank h =
+      keeps_bind (negation c bank) (λ n b1. bind (disjunction n f b1) (λ x b2. bind (disjunction c g b2) (λ y b3. conjoined (x ∷ y ∷ []) b3))) (keeps_formula (formulas.Not c) bank tt h)
+      (λ n b1 i. keeps_bind (disjunction n f b1) (λ x b2. bind (disjunction c g b2) (λ y b3. conjoined (x ∷ y ∷ []) b3)) (keeps_formula (formulas.Or (n ∷ f ∷ [])) b1 tt i)
+      (λ x b2 j. keeps_bind (disjunction c g b2) (λ y b3. conjoined (x ∷ y ∷ []) b3) (keeps_formula (formulas.Or (c ∷ g ∷ [])) b2 tt j)
+      (λ y b3 k. keeps_formula (formulas.And (x ∷ y ∷ [])) b3 tt k)))
+
+  keeps_build : (o : Operator) (sort : Sort) (args : List ℕ) (bank : List Node) → Is bank → Keeps (build o sort args bank)
+  keeps_build op.Not sort [] bank h = h
+  keeps_build op.Not sort (f ∷ []) bank h = keeps_formula (formulas.Not f) bank tt h
+  keeps_build op.Not sort (f ∷ g ∷ fs) bank h = h
+  keeps_build op.And sort fs bank h = keeps_formula (formulas.And fs) bank tt h
+  keeps_build op.Or sort fs bank h = keeps_formula (formulas.Or fs) bank tt h
+  keeps_build op.Implies sort fs bank h = keeps_right negation disjunction (λ x b i. keeps_formula (formulas.Not x) b tt i) (λ x y b i. keeps_formula (formulas.Or (x ∷ y ∷ [])) b tt i) fs bank h
+  keeps_build op.Xor sort [] bank h = h
+  keeps_build op.Xor sort (f ∷ fs) bank h = keeps_left exclusive_or (λ x y b i. keeps_difference sorts.Bool (x, y) b i) f fs bank h
+  keeps_build op.Equal sort [] bank h = h
+  keeps_build op.Equal sort (x ∷ xs) bank h = keeps_chain sort x xs bank h
+  keeps_build op.Distinct sort xs bank h = keeps_apart sort xs bank h
+  keeps_build op.Choice sort [] bank h = h
+  keeps_build op.Choice sort (c ∷ []) bank h = h
+  keeps_build op.Choice sort (c ∷ f ∷ []) bank h = h
+  keeps_build op.Choice sort (c ∷ f ∷ g ∷ []) bank h = keeps_choice c f g bank h
+  keeps_build op.Choice sort (c ∷ f ∷ g ∷ x ∷ xs) bank h = h
+  keeps_build op.Member sort [] bank h = h
+  keeps_build op.Member sort (e ∷ []) bank h = h
+  keeps_build op.Member sort (e ∷ s ∷ []) bank h = keeps_formula (formulas.Member e s) bank tt h
+  keeps_build op.Member sort (e ∷ s ∷ x ∷ xs) bank h = h
+  keeps_build op.Subset sort [] bank h = h
+  keeps_build op.Subset sort (s ∷ []) bank h = h
+  keeps_build op.Subset sort (s ∷ t ∷ []) bank h = keeps_inclusion sort s t bank h
+  keeps_build op.Subset sort (s ∷ t ∷ x ∷ xs) bank h = h
+  keeps_build op.Union sort [] bank h = h
+  keeps_build op.Union sort (s ∷ ss) bank h = keeps_left (joined joins.Union) (keeps_joined joins.Union) s ss bank h
+  keeps_build op.Inter sort [] bank h = h
+  keeps_build op.Inter sort (s ∷ ss) bank h = keeps_left (joined joins.Inter) (keeps_joined joins.Inter) s ss bank h
+  keeps_build op.Minus sort [] bank h = h
+  keeps_build op.Minus sort (s ∷ []) bank h = h
+  keeps_build op.Minus sort (s ∷ t ∷ []) bank h = keeps_set (sets.Minus s t) bank h
+  keeps_build op.Minus sort (s ∷ t ∷ x ∷ xs) bank h = h
+  keeps_build op.Singleton sort [] bank h = h
+  keeps_build op.Singleton sort (e ∷ []) bank h = keeps_set (sets.Single e) bank h
+  keeps_build op.Singleton sort (e ∷ x ∷ xs) bank h = h
+  keeps_build op.Insert sort args bank h = keeps_right single union (λ x b i. keeps_set (sets.Single x) b i) (λ x y b i. keeps_set (sets.Union x y) b i) args bank h
+
+  keeps_built : (fault : Option Code) (o : Operator) (ms : List Meant) (bank : List Node) → Is bank → Keeps (built fault o ms bank)
+  keeps_built (Some fault) o ms bank h = h
+  keeps_built None o ms bank h = keeps_bind (build o (first_sort ms) (numbers ms) bank) (λ n b. Done (meant (sort_made o (first_sort ms)) (suc (deepest ms)) n) b) (keeps_build o (first_sort ms) (numbers ms) bank h) (λ n b i. i)
+
+  -- ---- terms of one token
+  keeps_leaf_formula : (x : Node) (bank : List Node) → IsPureNode x → Is bank → Keeps (leaf_formula x bank)
+  keeps_leaf_formula x bank p h = keeps_bind (put x bank) (λ n b. Done (meant sorts.Bool 1 n) b) (keeps_put x bank p h) (λ n b i. i)
+
+  keeps_leaf_value : (sort : Sort) (x : Node) (bank : List Node) → IsPureNode x → Is bank → Keeps (leaf_value sort x bank)
+  keeps_leaf_value sort x bank p h =
+      keeps_bind (put_formula formulas.True bank) (λ g b. bind (put x b) (λ n c. Done (meant sort 1 n) c)) (keeps_formula formulas.True bank tt h)
+      (λ g b i. keeps_bind (put x b) (λ n c. Done (meant sort 1 n) c) (keeps_put x b p i) (λ n c j. j))
+
+  keeps_constant : (n : ℕ) (sort : Sort) (bank : List Node) → Is bank → Keeps (constant n sort bank)
+  keeps_constant n sorts.Bool bank h = keeps_leaf_formula (nodes.Formula (formulas.Flag n)) bank tt h
+  keeps_constant n (sorts.Named k) bank h = keeps_leaf_value (sorts.Named k) (nodes.Element (elements.Const n (sorts.Named k))) bank tt h
+  keeps_constant n (sorts.SetNamed k) bank h = keeps_leaf_value (sorts.SetNamed k) (nodes.Set (sets.Const n (sorts.SetNamed k))) bank tt h
+  keeps_constant n sorts.Int bank h = h
+  keeps_constant n sorts.SetInt bank h = h
+
+  keeps_empty : (sort : Sort) (bank : List Node) → Is bank → Keeps (empty_set sort bank)
+  keeps_empty (sorts.SetNamed k) bank h = keeps_leaf_value (sorts.SetNamed k) (nodes.Set (sets.Empty (sorts.SetNamed k))) bank tt h
+  keeps_empty sorts.SetInt bank h = h
+  keeps_empty sorts.Bool bank h = h
+  keeps_empty sorts.Int bank h = h
+  keeps_empty (sorts.Named k) bank h = h
+
+  keeps_named : (o : Option Named) (bank : List Node) → Is bank → Keeps (named_term o bank)
+  keeps_named (Some (named.Constant n sort)) bank h = keeps_constant n sort bank h
+  keeps_named (Some (named.Sort n)) bank h = h
+  keeps_named None bank h = h
+
+  keeps_word : (names : Names) (w : Word) (name : List ℕ) (bank : List Node) → Is bank → Keeps (word_term names w name bank)
+  keeps_word names word.True name bank h = keeps_leaf_formula (nodes.Formula formulas.True) bank tt h
+  keeps_word names word.False name bank h = keeps_leaf_formula (nodes.Formula formulas.False) bank tt h
+  keeps_word names (word.Operator o) name bank h = h
+  keeps_word names word.EmptySet name bank h = h
+  keeps_word names word.Outside name bank h = h
+  keeps_word names word.Free name bank h = keeps_named (look_up names name) bank h
+
+  keeps_token : (names : Names) (k : Kind) (text : List ℕ) (bank : List Node) → Is bank → Keeps (token_term names k text bank)
+  keeps_token names kind.Word text bank h = by (is_reserved text) where
+    by : (b : Bool) → Keeps (if b then Fault code.E5 bank else name_term names text bank)
+    by true = h
+    by false = keeps_word names (word_of text) text bank h
+  keeps_token names kind.Quoted text bank h = keeps_word names (word_of (between text)) (between text) bank h
+  keeps_token names kind.Numeral text bank h = h
+  keeps_token names kind.Foreign text bank h = h
+  keeps_token names kind.Literal text bank h = h
+  keeps_token names kind.Keyword text bank h = h
+  keeps_token names kind.Left text bank h = h
+  keeps_token names kind.Right text bank h = h
+
+  -- ---- all terms
+  keeps_list : (head : Result Head Code) (arguments : List Node → Outcome (List Meant)) (bank : List Node) → Is bank → Keeps (arguments bank) → Keeps (list_term head arguments bank)
+  keeps_list (Err fault) arguments bank h k = h
+  keeps_list (Ok (heads.EmptySet sort)) arguments bank h k = keeps_empty sort bank h
+  keeps_list (Ok (heads.Operator o)) arguments bank h k = keeps_bind (arguments bank) (apply o) k (λ ms b i. keeps_built (application_fault o ms) o ms b i)
+
+  mutual
+    keeps_term : (names : Names) (t : Shape) (bank : List Node) → Is bank → Keeps (term names t bank)
+    keeps_term names (Single k text start line) bank h = keeps_token names k text bank h
+    keeps_term names (Listed line parts) bank h = keeps_list (head_of names parts) (behind_head names parts) bank h (keeps_behind names parts bank h)
+
+    keeps_behind : (names : Names) (parts : Shapes) (bank : List Node) → Is bank → Keeps (behind_head names parts bank)
+    keeps_behind names Empty bank h = h
+    keeps_behind names (More head rest) bank h = keeps_terms names rest bank h
+
+    keeps_terms : (names : Names) (parts : Shapes) (bank : List Node) → Is bank → Keeps (terms names parts bank)
+    keeps_terms names Empty bank h = h
+    keeps_terms names (More t rest) bank h =
+        keeps_bind (term names t bank) (λ m b. bind (terms names rest b) (λ ms c. Done (m ∷ ms) c)) (keeps_term names t bank h)
+        (λ m b i. keeps_bind (terms names rest b) (λ ms c. Done (m ∷ ms) c) (keeps_terms names rest b i) (λ ms c j. j))
+
+  keeps_need : (m : Meant) (bank : List Node) → Is bank → Keeps (need_bool m bank)
+  keeps_need m bank h = by (same_sort sorts.Bool m.sort) where
+    by : (b : Bool) → Keeps (if b then Done m.number bank else Fault code.E7 bank)
+    by true = h
+    by false = h
+
+  keeps_core : (t : Shape) (s : State) → Is s.bank → Keeps (core t s)
+  keeps_core t s h = keeps_bind (term s.names t s.bank) need_bool (keeps_term s.names t s.bank h) keeps_need
+
+-- ---- a bank stays pure
 one_more : (bank : List Node) (x : Node) → IsPureBank bank → IsPureNode x → IsPureBank (bank ++ x ∷ [])
 one_more [] x h p = (p, tt)
 one_more (y ∷ ys) x h p = (h.0, one_more ys x h.1 p)
 
-keeps_put : (x : Node) (bank : List Node) → IsPureNode x → IsPureBank bank → Keeps (put x bank)
-keeps_put x bank p h = by (takes bank x) where
-  with : (b : Bool) → IsPureBank (if b then bank else bank ++ x ∷ [])
-  with true = h
-  with false = one_more bank x h p
-
-  by : (b : Bool) → Keeps (if b then Done (number_of bank x) (with_node bank x) else Fault (code.E16 limit) bank)
-  by true = with (has_node bank x)
-  by false = h
-
-keeps_formula : (f : Formula) (bank : List Node) → IsPureFormula f → IsPureBank bank → Keeps (put_formula f bank)
-keeps_formula f bank p h = keeps_put (nodes.Formula f) bank p h
-
--- ---- formulas of operators
-keeps_set : (s : SetTerm) (bank : List Node) → IsPureBank bank → Keeps (put_set s bank)
-keeps_set s bank h = keeps_put (nodes.Set s) bank tt h
-
-keeps_left : (two : ℕ → ℕ → List Node → Outcome ℕ) → ((x y : ℕ) (bank : List Node) → IsPureBank bank → Keeps (two x y bank)) → (x : ℕ) (ys : List ℕ) (bank : List Node) → IsPureBank bank → Keeps (from_left two x ys bank)
-keeps_left two each_two x [] bank h = h
-keeps_left two each_two x (y ∷ ys) bank h = keeps_bind (two x y bank) (λ n b. from_left two n ys b) (each_two x y bank h) (λ n b i. keeps_left two each_two n ys b i)
-
-keeps_right : (one : ℕ → List Node → Outcome ℕ) (two : ℕ → ℕ → List Node → Outcome ℕ) → ((x : ℕ) (bank : List Node) → IsPureBank bank → Keeps (one x bank)) → ((x y : ℕ) (bank : List Node) → IsPureBank bank → Keeps (two x y bank)) → (xs : List ℕ) (bank : List Node) → IsPureBank bank → Keeps (from_right one two xs bank)
-keeps_right one two each_one each_two [] bank h = h
-keeps_right one two each_one each_two (x ∷ []) bank h = h
-keeps_right one two each_one each_two (x ∷ y ∷ ys) bank h =
-    keeps_bind (one x bank) (λ n b. bind (from_right one two (y ∷ ys) b) (λ m c. two n m c)) (each_one x bank h)
-    (λ n b i. keeps_bind (from_right one two (y ∷ ys) b) (λ m c. two n m c) (keeps_right one two each_one each_two (y ∷ ys) b i) (λ m c j. each_two n m c j))
-
-pure_equal : (sort : Sort) (x y : ℕ) → IsPureFormula (equal sort x y)
-pure_equal sorts.Bool x y = tt
-pure_equal sorts.Int x y = tt
-pure_equal (sorts.Named k) x y = tt
-pure_equal sorts.SetInt x y = tt
-pure_equal (sorts.SetNamed k) x y = tt
-
-keeps_equation : (sort : Sort) (p : ℕ × ℕ) (bank : List Node) → IsPureBank bank → Keeps (equation sort p bank)
-keeps_equation sort p bank h = keeps_formula (equal sort p.0 p.1) bank (pure_equal sort p.0 p.1) h
-
-keeps_difference : (sort : Sort) (p : ℕ × ℕ) (bank : List Node) → IsPureBank bank → Keeps (difference sort p bank)
-keeps_difference sort p bank h =
-    keeps_bind (equation sort p bank) (λ n b. put_formula (formulas.Not n) b) (keeps_equation sort p bank h)
-    (λ n b i. keeps_formula (formulas.Not n) b tt i)
-
-keeps_joined : (join : Join) (s t : ℕ) (bank : List Node) → IsPureBank bank → Keeps (joined join s t bank)
-keeps_joined joins.Union s t bank h = keeps_set (sets.Union s t) bank h
-keeps_joined joins.Inter s t bank h = keeps_set (sets.Inter s t) bank h
-
-keeps_inclusion : (sort : Sort) (s t : ℕ) (bank : List Node) → IsPureBank bank → Keeps (inclusion sort s t bank)
-keeps_inclusion sort s t bank h =
-    keeps_bind (put_set (sets.Minus s t) bank) (λ m b1. bind (put_set (sets.Empty sort) b1) (λ e b2. put_formula (formulas.EqSet m e) b2)) (keeps_set (sets.Minus s t) bank h)
-    (λ m b1 i. keeps_bind (put_set (sets.Empty sort) b1) (λ e b2. put_formula (formulas.EqSet m e) b2) (keeps_set (sets.Empty sort) b1 i)
-    (λ e b2 j. keeps_formula (formulas.EqSet m e) b2 tt j))
-
-keeps_conjunction : (fs : List ℕ) (bank : List Node) → IsPureBank bank → Keeps (conjunction fs bank)
-keeps_conjunction [] bank h = keeps_formula (formulas.And []) bank tt h
-keeps_conjunction (f ∷ []) bank h = h
-keeps_conjunction (f ∷ g ∷ fs) bank h = keeps_formula (formulas.And (f ∷ g ∷ fs)) bank tt h
-
-keeps_chain : (sort : Sort) (x : ℕ) (xs : List ℕ) (bank : List Node) → IsPureBank bank → Keeps (chain sort x xs bank)
-keeps_chain sort x xs bank h = keeps_bind (each (equation sort) (neighbours (x ∷ xs)) bank) conjunction (keeps_each (equation sort) (keeps_equation sort) (neighbours (x ∷ xs)) bank h) keeps_conjunction
-
-keeps_apart : (sort : Sort) (xs : List ℕ) (bank : List Node) → IsPureBank bank → Keeps (apart sort xs bank)
-keeps_apart sort xs bank h = keeps_bind (each (difference sort) (pairs xs) bank) conjunction (keeps_each (difference sort) (keeps_difference sort) (pairs xs) bank h) keeps_conjunction
-
-keeps_choice : (c f g : ℕ) (bank : List Node) → IsPureBank bank → Keeps (choice c f g bank)
-keeps_choice c f g bank h =
-    keeps_bind (negation c bank) (λ n b1. bind (disjunction n f b1) (λ x b2. bind (disjunction c g b2) (λ y b3. conjoined (x ∷ y ∷ []) b3))) (keeps_formula (formulas.Not c) bank tt h)
-    (λ n b1 i. keeps_bind (disjunction n f b1) (λ x b2. bind (disjunction c g b2) (λ y b3. conjoined (x ∷ y ∷ []) b3)) (keeps_formula (formulas.Or (n ∷ f ∷ [])) b1 tt i)
-    (λ x b2 j. keeps_bind (disjunction c g b2) (λ y b3. conjoined (x ∷ y ∷ []) b3) (keeps_formula (formulas.Or (c ∷ g ∷ [])) b2 tt j)
-    (λ y b3 k. keeps_formula (formulas.And (x ∷ y ∷ [])) b3 tt k)))
-
-keeps_build : (o : Operator) (sort : Sort) (args : List ℕ) (bank : List Node) → IsPureBank bank → Keeps (build o sort args bank)
-keeps_build op.Not sort [] bank h = h
-keeps_build op.Not sort (f ∷ []) bank h = keeps_formula (formulas.Not f) bank tt h
-keeps_build op.Not sort (f ∷ g ∷ fs) bank h = h
-keeps_build op.And sort fs bank h = keeps_formula (formulas.And fs) bank tt h
-keeps_build op.Or sort fs bank h = keeps_formula (formulas.Or fs) bank tt h
-keeps_build op.Implies sort fs bank h = keeps_right negation disjunction (λ x b i. keeps_formula (formulas.Not x) b tt i) (λ x y b i. keeps_formula (formulas.Or (x ∷ y ∷ [])) b tt i) fs bank h
-keeps_build op.Xor sort [] bank h = h
-keeps_build op.Xor sort (f ∷ fs) bank h = keeps_left exclusive_or (λ x y b i. keeps_difference sorts.Bool (x, y) b i) f fs bank h
-keeps_build op.Equal sort [] bank h = h
-keeps_build op.Equal sort (x ∷ xs) bank h = keeps_chain sort x xs bank h
-keeps_build op.Distinct sort xs bank h = keeps_apart sort xs bank h
-keeps_build op.Choice sort [] bank h = h
-keeps_build op.Choice sort (c ∷ []) bank h = h
-keeps_build op.Choice sort (c ∷ f ∷ []) bank h = h
-keeps_build op.Choice sort (c ∷ f ∷ g ∷ []) bank h = keeps_choice c f g bank h
-keeps_build op.Choice sort (c ∷ f ∷ g ∷ x ∷ xs) bank h = h
-keeps_build op.Member sort [] bank h = h
-keeps_build op.Member sort (e ∷ []) bank h = h
-keeps_build op.Member sort (e ∷ s ∷ []) bank h = keeps_formula (formulas.Member e s) bank tt h
-keeps_build op.Member sort (e ∷ s ∷ x ∷ xs) bank h = h
-keeps_build op.Subset sort [] bank h = h
-keeps_build op.Subset sort (s ∷ []) bank h = h
-keeps_build op.Subset sort (s ∷ t ∷ []) bank h = keeps_inclusion sort s t bank h
-keeps_build op.Subset sort (s ∷ t ∷ x ∷ xs) bank h = h
-keeps_build op.Union sort [] bank h = h
-keeps_build op.Union sort (s ∷ ss) bank h = keeps_left (joined joins.Union) (keeps_joined joins.Union) s ss bank h
-keeps_build op.Inter sort [] bank h = h
-keeps_build op.Inter sort (s ∷ ss) bank h = keeps_left (joined joins.Inter) (keeps_joined joins.Inter) s ss bank h
-keeps_build op.Minus sort [] bank h = h
-keeps_build op.Minus sort (s ∷ []) bank h = h
-keeps_build op.Minus sort (s ∷ t ∷ []) bank h = keeps_set (sets.Minus s t) bank h
-keeps_build op.Minus sort (s ∷ t ∷ x ∷ xs) bank h = h
-keeps_build op.Singleton sort [] bank h = h
-keeps_build op.Singleton sort (e ∷ []) bank h = keeps_set (sets.Single e) bank h
-keeps_build op.Singleton sort (e ∷ x ∷ xs) bank h = h
-keeps_build op.Insert sort args bank h = keeps_right single union (λ x b i. keeps_set (sets.Single x) b i) (λ x y b i. keeps_set (sets.Union x y) b i) args bank h
-
-keeps_built : (fault : Option Code) (o : Operator) (ms : List Meant) (bank : List Node) → IsPureBank bank → Keeps (built fault o ms bank)
-keeps_built (Some fault) o ms bank h = h
-keeps_built None o ms bank h = keeps_bind (build o (first_sort ms) (numbers ms) bank) (λ n b. Done (meant (sort_made o (first_sort ms)) (suc (deepest ms)) n) b) (keeps_build o (first_sort ms) (numbers ms) bank h) (λ n b i. i)
-
--- ---- terms of one token
-keeps_leaf_formula : (x : Node) (bank : List Node) → IsPureNode x → IsPureBank bank → Keeps (leaf_formula x bank)
-keeps_leaf_formula x bank p h = keeps_bind (put x bank) (λ n b. Done (meant sorts.Bool 1 n) b) (keeps_put x bank p h) (λ n b i. i)
-
-keeps_leaf_value : (sort : Sort) (x : Node) (bank : List Node) → IsPureNode x → IsPureBank bank → Keeps (leaf_value sort x bank)
-keeps_leaf_value sort x bank p h =
-    keeps_bind (put_formula formulas.True bank) (λ g b. bind (put x b) (λ n c. Done (meant sort 1 n) c)) (keeps_formula formulas.True bank tt h)
-    (λ g b i. keeps_bind (put x b) (λ n c. Done (meant sort 1 n) c) (keeps_put x b p i) (λ n c j. j))
-
-keeps_constant : (n : ℕ) (sort : Sort) (bank : List Node) → IsPureBank bank → Keeps (constant n sort bank)
-keeps_constant n sorts.Bool bank h = keeps_leaf_formula (nodes.Formula (formulas.Flag n)) bank tt h
-keeps_constant n (sorts.Named k) bank h = keeps_leaf_value (sorts.Named k) (nodes.Element (elements.Const n (sorts.Named k))) bank tt h
-keeps_constant n (sorts.SetNamed k) bank h = keeps_leaf_value (sorts.SetNamed k) (nodes.Set (sets.Const n (sorts.SetNamed k))) bank tt h
-keeps_constant n sorts.Int bank h = h
-keeps_constant n sorts.SetInt bank h = h
-
-keeps_empty : (sort : Sort) (bank : List Node) → IsPureBank bank → Keeps (empty_set sort bank)
-keeps_empty (sorts.SetNamed k) bank h = keeps_leaf_value (sorts.SetNamed k) (nodes.Set (sets.Empty (sorts.SetNamed k))) bank tt h
-keeps_empty sorts.SetInt bank h = h
-keeps_empty sorts.Bool bank h = h
-keeps_empty sorts.Int bank h = h
-keeps_empty (sorts.Named k) bank h = h
-
-keeps_named : (o : Option Named) (bank : List Node) → IsPureBank bank → Keeps (named_term o bank)
-keeps_named (Some (named.Constant n sort)) bank h = keeps_constant n sort bank h
-keeps_named (Some (named.Sort n)) bank h = h
-keeps_named None bank h = h
-
-keeps_word : (names : Names) (w : Word) (name : List ℕ) (bank : List Node) → IsPureBank bank → Keeps (word_term names w name bank)
-keeps_word names word.True name bank h = keeps_leaf_formula (nodes.Formula formulas.True) bank tt h
-keeps_word names word.False name bank h = keeps_leaf_formula (nodes.Formula formulas.False) bank tt h
-keeps_word names (word.Operator o) name bank h = h
-keeps_word names word.EmptySet name bank h = h
-keeps_word names word.Outside name bank h = h
-keeps_word names word.Free name bank h = keeps_named (look_up names name) bank h
-
-keeps_token : (names : Names) (k : Kind) (text : List ℕ) (bank : List Node) → IsPureBank bank → Keeps (token_term names k text bank)
-keeps_token names kind.Word text bank h = by (is_reserved text) where
-  by : (b : Bool) → Keeps (if b then Fault code.E5 bank else name_term names text bank)
-  by true = h
-  by false = keeps_word names (word_of text) text bank h
-keeps_token names kind.Quoted text bank h = keeps_word names (word_of (between text)) (between text) bank h
-keeps_token names kind.Numeral text bank h = h
-keeps_token names kind.Foreign text bank h = h
-keeps_token names kind.Literal text bank h = h
-keeps_token names kind.Keyword text bank h = h
-keeps_token names kind.Left text bank h = h
-keeps_token names kind.Right text bank h = h
-
--- ---- all terms
-keeps_list : (head : Result Head Code) (arguments : List Node → Outcome (List Meant)) (bank : List Node) → IsPureBank bank → Keeps (arguments bank) → Keeps (list_term head arguments bank)
-keeps_list (Err fault) arguments bank h k = h
-keeps_list (Ok (heads.EmptySet sort)) arguments bank h k = keeps_empty sort bank h
-keeps_list (Ok (heads.Operator o)) arguments bank h k = keeps_bind (arguments bank) (apply o) k (λ ms b i. keeps_built (application_fault o ms) o ms b i)
-
-mutual
-  keeps_term : (names : Names) (t : Shape) (bank : List Node) → IsPureBank bank → Keeps (term names t bank)
-  keeps_term names (Single k text start line) bank h = keeps_token names k text bank h
-  keeps_term names (Listed line parts) bank h = keeps_list (head_of names parts) (behind_head names parts) bank h (keeps_behind names parts bank h)
-
-  keeps_behind : (names : Names) (parts : Shapes) (bank : List Node) → IsPureBank bank → Keeps (behind_head names parts bank)
-  keeps_behind names Empty bank h = h
-  keeps_behind names (More head rest) bank h = keeps_terms names rest bank h
-
-  keeps_terms : (names : Names) (parts : Shapes) (bank : List Node) → IsPureBank bank → Keeps (terms names parts bank)
-  keeps_terms names Empty bank h = h
-  keeps_terms names (More t rest) bank h =
-      keeps_bind (term names t bank) (λ m b. bind (terms names rest b) (λ ms c. Done (m ∷ ms) c)) (keeps_term names t bank h)
-      (λ m b i. keeps_bind (terms names rest b) (λ ms c. Done (m ∷ ms) c) (keeps_terms names rest b i) (λ ms c j. j))
-
-keeps_need : (m : Meant) (bank : List Node) → IsPureBank bank → Keeps (need_bool m bank)
-keeps_need m bank h = by (same_sort sorts.Bool m.sort) where
-  by : (b : Bool) → Keeps (if b then Done m.number bank else Fault code.E7 bank)
-  by true = h
-  by false = h
-
-keeps_core : (t : Shape) (s : State) → IsPureBank s.bank → Keeps (core t s)
-keeps_core t s h = keeps_bind (term s.names t s.bank) need_bool (keeps_term s.names t s.bank h) keeps_need
-
 pub done_pure : (t : Shape) (s : State) (n : ℕ) (bank : List Node) → IsPureBank s.bank → core t s ≡ Done n bank → IsPureBank bank
-done_pure t s n bank h e = subst Keeps e (keeps_core t s h)
+done_pure t s n bank h e = subst (Keeps IsPureBank one_more) e (keeps_core IsPureBank one_more t s h)
 
 pub fault_pure : (t : Shape) (s : State) (code : Code) (bank : List Node) → IsPureBank s.bank → core t s ≡ Fault code bank → IsPureBank bank
-fault_pure t s code bank h e = subst Keeps e (keeps_core t s h)
+fault_pure t s code bank h e = subst (Keeps IsPureBank one_more) e (keeps_core IsPureBank one_more t s h)
+
+-- ---- a bank begins as it did
+one_behind : (old bank : List Node) (x : Node) → Begins old bank → IsPureNode x → Begins old (bank ++ x ∷ [])
+one_behind old bank x b p = (b.0 ++ x ∷ [], ap (λ l. l ++ x ∷ []) b.1 ∙ append_assoc old b.0 (x ∷ []))
+
+pub fault_grows : (t : Shape) (s : State) (code : Code) (bank : List Node) → core t s ≡ Fault code bank → Begins s.bank bank
+fault_grows t s code bank e = subst (Keeps (Begins s.bank) (one_behind s.bank)) e (keeps_core (Begins s.bank) (one_behind s.bank) t s ([], sym (append-nil s.bank)))

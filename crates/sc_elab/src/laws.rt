@@ -31,9 +31,10 @@ pub fn elaboration_keeps_meaning()
     bank_grows();
 }
 
-/// Elaboration adds nodes at the end of the bank: the formula found is one of the new bank, and the formulas of the old one mean what they meant.
+/// Elaboration adds nodes at the end of the bank: the formula found is one of the new bank, and the formulas of the old one mean what they meant. Where a term is refused the bank begins as it did, too.
 pub fn elaboration_grows_bank()
     ensures bank { (t : Shape) (s : State) (n : ℕ) (bank : List Node) → IsBank s.bank → core t s ≡ Done n bank → IsBank bank × Begins s.bank bank × IsFormulaOf bank n }
+    ensures fault { (t : Shape) (s : State) (code : Code) (bank : List Node) → core t s ≡ Fault code bank → Begins s.bank bank }
     ensures stays { (t : Shape) (s : State) (n : ℕ) (bank : List Node) → IsBank s.bank → core t s ≡ Done n bank → (i : Interpretation) → IsInterpretation i → (m : ℕ) → IsFormulaOf s.bank m → (bank_meaning bank i).truth m ≡ (bank_meaning s.bank i).truth m }
 {
     bank_meanings_fit();

@@ -1,3 +1,4 @@
+use Rattle.sc_elab.proofs.Purely.{fault_grows}
 use Rattle.sc_elab.proofs.Standing.{BankLaws}
 use Rattle.sc_elab.proofs.Worths.{core_grows, core_stays}
 use Rattle.sc_elab.proofs.laws.elaboration_grows_bank.Goals as goal
@@ -31,3 +32,6 @@ returns-clause-stays c =
       onward = c.bank_grows.ensures.onward;
     } in
     core_stays laws
+
+pub returns-clause-fault : goal.returns-clause-fault
+returns-clause-fault c = fault_grows
