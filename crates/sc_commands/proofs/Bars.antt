@@ -7,7 +7,7 @@ front : (name rest : List ℕ) → take (length name) (name ++ rest) ≡ name
 front [] rest = search rules
 front (x ∷ xs) rest = ap (λ ys. x ∷ ys) (front xs rest)
 
-between_bars : (name : List ℕ) → between (124 ∷ name ++ 124 ∷ []) ≡ name
+pub between_bars : (name : List ℕ) → between (124 ∷ name ++ 124 ∷ []) ≡ name
 between_bars name =
     let n : length (124 ∷ name ++ 124 ∷ []) - 1 ≡ suc (length name) = omega (arith, length-append name (124 ∷ [])) in
     ap (λ k. drop 1 (take k (124 ∷ name ++ 124 ∷ []))) n ∙ front name (124 ∷ [])

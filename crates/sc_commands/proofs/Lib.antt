@@ -3,3 +3,4 @@ pub mod Heads
 pub mod Words
 pub mod Bars
 pub mod Spelling
+pub mod Grammar

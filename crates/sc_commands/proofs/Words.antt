@@ -14,15 +14,15 @@ abbrev pub Form : Type 0
 Form = Shapes → Option CommandShape
 
 -- a command's name and its form
-record Entry : Type 0 where
+pub record Entry : Type 0 where
   pub name : List ℕ
   pub form : Form
 
-abbrev look_up : List Entry → List ℕ → Option Form
+abbrev pub look_up : List Entry → List ℕ → Option Form
 look_up [] word = None
 look_up (e ∷ es) word = if bytes_eq e.name word then Some e.form else look_up es word
 
-abbrev table : List Entry
+abbrev pub table : List Entry
 table =
     record { name = codes "set-logic"; form = Forms.set_logic } ∷ record { name = codes "set-info"; form = Forms.set_info } ∷ record { name = codes "declare-sort"; form = Forms.declare_sort }
     ∷ record { name = codes "declare-const"; form = Forms.declare_const } ∷ record { name = codes "declare-fun"; form = Forms.declare_fun } ∷ record { name = codes "assert"; form = Forms.assert }

@@ -1,5 +1,6 @@
 -- What the codes of a top item say of its head, and what names are.
 use Rattle.std.specs.Prelude.{◌≡◌, ◌↔◌, ⊤, ℕ, Bool, true, false, ◌||◌, List, [], ◌∷◌, ◌++◌, codes, Some, None, IsSome, Ok, Err}
+use Rattle.sc_text.specs.declared.token.Kind.{Kind}
 use Rattle.sc_text.specs.declared.token.Kind.TheVariants as kind
 use Rattle.sc_text.specs.declared.code.Code.{Code}
 use Rattle.sc_text.specs.declared.code.Code.TheVariants as code
@@ -78,3 +79,79 @@ pub record AreSpelt : Type 0 where
   pub get_proof : (line start at : ℕ) → command_of (item line start at (codes "get-proof") Empty) ≡ Ok GetProof
   pub echo : (line start at : ℕ) (l : Shape) (text : List ℕ) → literal l ≡ Some text → command_of (item line start at (codes "echo") (More l Empty)) ≡ Ok (Echo text)
   pub exit : (line start at : ℕ) → command_of (item line start at (codes "exit") Empty) ≡ Ok Exit
+
+-- a simple symbol, which is its name and no reserved word, or a quoted one, whose name stands between its bars
+abbrev pub IsSymbol : List ℕ → Shape → Type 0
+IsSymbol name (Single kind.Word text start line) = (name ≡ text) × (is_reserved text ≡ false)
+IsSymbol name (Single kind.Quoted text start line) = (inner : List ℕ) → text ≡ 124 ∷ inner ++ 124 ∷ [] → name ≡ inner
+IsSymbol name s = ⊥
+
+-- a token of this kind, as written
+abbrev pub IsToken : Kind → List ℕ → Shape → Type 0
+IsToken k written (Single other text start line) = (k ≡ other) × (written ≡ text)
+IsToken k written (Listed line rest) = ⊥
+
+-- a symbol or a list
+abbrev pub MayBeSort : Shape → Type 0
+MayBeSort (Listed line rest) = ⊤
+MayBeSort (Single k text start line) = (name : List ℕ) × IsSymbol name (Single k text start line)
+
+abbrev pub MayBeSorts : Shapes → Type 0
+MayBeSorts Empty = ⊤
+MayBeSorts (More s rest) = MayBeSort s × MayBeSorts rest
+
+-- a list of what may be sorts
+abbrev pub MayBeSortList : Shape → Type 0
+MayBeSortList (Listed line rest) = MayBeSorts rest
+MayBeSortList (Single k text start line) = ⊥
+
+-- the words of the grammar of commands in SMT-LIB 2.6, some with what the command keeps of them
+pub data Part : Type 0 where
+  AnySymbol : Part
+  Symbol : List ℕ → Part
+  Numeral : List ℕ → Part
+  Literal : List ℕ → Part
+  AnyKeyword : Part
+  AnyValue : Part
+  Sort : Shape → Part
+  SortList : Shape → Part
+  Term : Shape → Part
+
+abbrev pub IsPart : Part → Shape → Type 0
+IsPart AnySymbol s = (name : List ℕ) × IsSymbol name s
+IsPart (Symbol name) s = IsSymbol name s
+IsPart (Numeral digits) s = IsToken kind.Numeral digits s
+IsPart (Literal text) s = IsToken kind.Literal text s
+IsPart AnyKeyword s = (text : List ℕ) × IsToken kind.Keyword text s
+IsPart AnyValue s = ⊤
+IsPart (Sort sort) s = (sort ≡ s) × MayBeSort s
+IsPart (SortList sorts) s = (sorts ≡ s) × MayBeSortList s
+IsPart (Term term) s = term ≡ s
+
+-- each part in turn, and nothing behind them
+abbrev pub AreParts : List Part → Shapes → Type 0
+AreParts [] Empty = ⊤
+AreParts (p ∷ ps) (More s rest) = IsPart p s × AreParts ps rest
+AreParts ps rest = ⊥
+
+-- the grammar of the commands that are done: what stands behind the name of each
+abbrev pub parts_of : CommandShape → List Part
+parts_of SetLogic = AnySymbol ∷ []
+parts_of SetInfo = AnyKeyword ∷ AnyValue ∷ []
+parts_of (DeclareSort name arity) = Symbol name ∷ Numeral arity ∷ []
+parts_of (DeclareConst name sort) = Symbol name ∷ Sort sort ∷ []
+parts_of (DeclareFun name arguments range) = Symbol name ∷ SortList arguments ∷ Sort range ∷ []
+parts_of (Assert term) = Term term ∷ []
+parts_of CheckSat = []
+parts_of GetProof = []
+parts_of (Echo text) = Literal text ∷ []
+parts_of Exit = []
+
+-- the list of the command's name, a bare word, and of its parts
+abbrev pub IsSpeltAs : CommandShape → Shape → Type 0
+IsSpeltAs c (Listed line (More (Single kind.Word text start at) parts)) = (text ≡ name_of c) × AreParts (parts_of c) parts
+IsSpeltAs c s = ⊥
+
+-- Nothing else is read as a command: what is read as one is spelt as this command.
+abbrev pub HaveNoOtherParts : Type 0
+HaveNoOtherParts = (s : Shape) (c : CommandShape) → command_of s ≡ Ok c → IsSpeltAs c s

@@ -5,8 +5,9 @@
 //! elsewhere.
 //!
 //! `command_of` of `specs/Forms.antt` says which trees are commands. [`codes_are_by_the_head`] says
-//! which codes come by an item's head alone, [`commands_have_parts`] what stands behind it, and
-//! [`names_stand_between_bars`] what a name is.
+//! which codes come by an item's head alone, [`commands_have_parts`] what stands behind it,
+//! [`commands_have_no_other_parts`] that nothing else does, and [`names_stand_between_bars`] what a
+//! name is.
 #![tactic(auto)]
 
 mod command;
@@ -15,7 +16,10 @@ mod laws;
 mod reader;
 
 pub use command::Command;
-pub use laws::{codes_are_by_the_head, commands_have_parts, names_stand_between_bars};
+pub use laws::{
+    codes_are_by_the_head, commands_have_no_other_parts, commands_have_parts,
+    names_stand_between_bars,
+};
 pub use reader::read_command;
 
 #[cfg(test)]
