@@ -8,6 +8,8 @@ use Rattle.sc_text.specs.Readings.{Lexeme, Word, Reads, Whole}
 use Rattle.sc_text.proofs.Readings.{one}
 use Rattle.sc_sexpr.specs.Scans.{Piece, items_of}
 use Rattle.sc_sexpr.specs.Shapes.{Shape, Single, Listed, Shapes, Empty, More}
+use Rattle.sc_sexpr.specs.Laws.{AreItems}
+use Rattle.sc_sexpr.specs.Given.{HaveAllTokens}
 use Rattle.sc_commands.specs.Laws.{AreByHead}
 use Rattle.sc_deriv.specs.declared.derivation.Derivation.{Derivation}
 use Rattle.sc_deriv.specs.Spelling.{IsSpelt}
@@ -24,6 +26,7 @@ use Rattle.sc_session.specs.Tracing.{step}
 use Rattle.sc_check.specs.Lines.{is_derivation}
 use Rattle.sc_check.specs.Printed.{proofs_of, IsCopyOf, derivations_in, all_accepted, EachIsAnswered, ChecksAcceptPrinted}
 use Rattle.sc_check.specs.Transcripts.{IsToldItem, AreItemsOf, TranscriptsAreCopies, ChecksAcceptTranscripts}
+use Rattle.sc_check.proofs.Covering.{covered}
 use Rattle.sc_check.proofs.Printing.{followed_to}
 use Rattle.sc_check.proofs.Speaking.{Spoken, none, word, proved, Tells, speaks}
 
@@ -137,7 +140,8 @@ transcripts_are_copies refute say have items names text script reads budget verd
     let told = all_told have (items_of most_bytes text).tops script.items reads.items in
     copied have (course_of script verdicts).bytes (proofs_of script verdicts) (speaks refute say items names budget script.last script.items told start verdicts [] refute.starts just fine fits) is a
 
-pub checks_accept_transcripts : ChecksAcceptPrinted → EachIsAnswered → TranscriptsAreCopies → ChecksAcceptTranscripts
-checks_accept_transcripts accept answered are_copies text script reads budget verdicts just fine fits v y t j later parts a =
-    accept false budget script verdicts just v y t j later parts fits (are_copies text script reads budget verdicts just fine fits j.items a)
+pub checks_accept_transcripts : ChecksAcceptPrinted → EachIsAnswered → AreItems → HaveAllTokens → TranscriptsAreCopies → ChecksAcceptTranscripts
+checks_accept_transcripts accept answered give all are_copies text script reads budget verdicts just fine fits input v y whole t j later parts same end =
+    let items = covered give all v j.before j.behind y input (course_of script verdicts).bytes j.follows.items j.items j.leaves.i whole j.follows.gives j.leaves.next j.gives end same in
+    accept false budget script verdicts just v y t j later parts fits (are_copies text script reads budget verdicts just fine fits j.items items)
     ∙ ap all_accepted (answered budget script verdicts just fine j.script.asked (step j.script.session j.leaves.i).session.bank (followed_to v y t j script.items later parts))

@@ -9,4 +9,6 @@ pub mod Printing
 pub mod Counting
 pub mod Literals
 pub mod Speaking
+pub mod Unended
+pub mod Covering
 pub mod Copying

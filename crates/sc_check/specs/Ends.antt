@@ -5,7 +5,8 @@ use Rattle.sc_io.specs.Writing.{IsWritten, IsCutByFault, IsCutByMemory}
 use Rattle.sc_sexpr.specs.View.{View}
 use Rattle.sc_check.specs.declared.ending.Ending.{Ending}
 use Rattle.sc_check.specs.declared.ending.Ending.TheVariants.{Done, Error, ReadFault, WriteFault, Memory, Refused, Nothing}
-use Rattle.sc_check.specs.Gathering.{IsGathered, IsCutOff, IsReadInPart, most_input}
+use Rattle.sc_input.specs.Gathering.{IsReadInPart, IsCutOff}
+use Rattle.sc_check.specs.Gathering.{IsGathered, most_input}
 use Rattle.sc_check.specs.Reports.{IsWhole, Reports, Says}
 
 -- the outside at a moment

@@ -1,16 +1,17 @@
 -- The responses to a script as the transcript of a check.
 use Rattle.std.specs.Prelude.{◌≡◌, ℕ, true, false, List, ◌∷◌, ◌++◌, length}
 use Rattle.std.specs.List.{AllByRecursion, AllZip, flat_map}
-use Rattle.sc_text.specs.Readings.{Reads, Whole}
+use Rattle.sc_text.specs.Readings.{Lexeme, Reads, Whole}
+use Rattle.sc_sexpr.specs.declared.item.Item.TheVariants as item
 use Rattle.sc_sexpr.specs.Scans.{Piece}
-use Rattle.sc_sexpr.specs.View.{View}
+use Rattle.sc_sexpr.specs.View.{View, answer}
 use Rattle.sc_deriv_text.specs.Sexpr.{plain, tokens_of}
 use Rattle.sc_deriv_text.specs.Spelling.{Fits}
 use Rattle.sc_tree.specs.declared.verdict.Verdict.{Verdict}
 use Rattle.sc_session.specs.Scripts.{Item, Script, IsTold, Reads as IsScript}
 use Rattle.sc_session.specs.Courses.{course_of, HasVerdicts}
 use Rattle.sc_check.specs.Lines.{Tally}
-use Rattle.sc_check.specs.Reports.{Judges}
+use Rattle.sc_check.specs.Reports.{IsWhole, Judges}
 use Rattle.sc_check.specs.Printed.{proofs_of, IsCopyOf, derivations_in, all_accepted}
 
 -- some bytes have the tokens of the item
@@ -29,10 +30,16 @@ TranscriptsAreCopies =
     (budget : ℕ) (verdicts : List Verdict) → HasVerdicts budget script verdicts → (course_of script verdicts).fails ≡ false → AllByRecursion Fits (proofs_of script verdicts) →
     (items : List Item) → AreItemsOf (course_of script verdicts).bytes items → AllZip IsCopyOf (proofs_of script verdicts) (derivations_in items)
 
--- So where a check follows such a script without an error, and its responses are the transcript, one derivation for each get-proof is accepted, and none is refused.
+-- Both texts have these tokens: white space and comments may differ.
+pub record HaveSameTokens (a b : List ℕ) : Type 0 where
+  pub tokens : List Lexeme
+  pub first : Reads true a tokens Whole
+  pub second : Reads true b tokens Whole
+
+-- So where a check has an input, follows such a script without an error up to its (exit), and the bytes behind that are the responses, but for white space and comments, one derivation for each get-proof is accepted when all items are judged, and none is refused.
 abbrev pub ChecksAcceptTranscripts : Type 0
 ChecksAcceptTranscripts =
     (text : List ℕ) (script : Script) → IsScript text script →
     (budget : ℕ) (verdicts : List Verdict) → HasVerdicts budget script verdicts → (course_of script verdicts).fails ≡ false → AllByRecursion Fits (proofs_of script verdicts) →
-    (v y : View) (t : Tally) (judges : Judges v t y) (behind : List Item) → script.items ≡ judges.follows.items ++ judges.leaves.i ∷ behind →
-    AreItemsOf (course_of script verdicts).bytes judges.items → t ≡ all_accepted (length judges.script.asked)
+    (input : List ℕ) (v y : View) → IsWhole v input → (t : Tally) (judges : Judges v t y) (behind : List Item) → script.items ≡ judges.follows.items ++ judges.leaves.i ∷ behind →
+    HaveSameTokens (course_of script verdicts).bytes judges.behind.unread → (answer y).item ≡ item.End → t ≡ all_accepted (length judges.script.asked)

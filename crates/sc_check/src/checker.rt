@@ -7,12 +7,18 @@ ghost use Rattle.sc_check.specs.Ends.{at_moment, CheckEnds};
 
 use crate::ending::Ending;
 use crate::follow::{Followed, follow};
-use crate::gather::{GatherError, MOST_MORE, gather};
 use crate::judge::{judge_all, refuse};
+use sc_input::{GatherError, Reach, gather};
 use sc_io::{Sink, Source};
 use sc_session::Session;
 use sc_sexpr::Splitter;
 use std::alloc::Global;
+
+/// The most bytes of a script.
+const MOST_BYTES: usize = 16_777_216;
+
+/// The most bytes behind a script.
+const MOST_MORE: usize = 1_152_921_504_606_846_976;
 
 /// Checks the text that a splitter has.
 fn check_text<O: Sink>(alloc: Global, splitter: &mut Splitter, out: &mut O) -> Ending
@@ -45,12 +51,16 @@ fn check_text<O: Sink>(alloc: Global, splitter: &mut Splitter, out: &mut O) -> E
 pub fn check_input<S: Source, O: Sink>(alloc: Global, source: &mut S, out: &mut O) -> Ending
     ensures { CheckEnds (at_moment (S.moment source.old) (O.moment out.old)) (at_moment (S.moment source.new) (O.moment out.new)) result }
 {
-    match gather(alloc, source) {
-        Ok(mut splitter) => {
+    let mut splitter = Splitter::new(alloc, MOST_BYTES as u64);
+    match gather(source, &mut splitter, MOST_BYTES + MOST_MORE + 1) {
+        Ok(Reach::End) => {
             let ending = check_text(alloc, &mut splitter, out);
             return ending;
         }
         Err(GatherError::Failed) => return Ending::ReadFault,
+        // More bytes than a script and what follows it may have, which is more than any machine
+        // keeps.
+        Ok(Reach::Most) => return Ending::Memory,
         Err(GatherError::Memory) => return Ending::Memory,
     }
 }

@@ -10,6 +10,7 @@ use sc_deriv_text::{items_have_tokens, texts_have_tokens};
 use sc_elab::elaboration_grows_bank;
 use sc_flatten::{meanings_agree, stocks_are_problems, stocks_stay};
 use sc_session::{proofs_refute, sessions_say_the_same, traces_go_along};
+use sc_sexpr::{items_have_all_tokens, splitters_give_items};
 use sc_terms::meanings_fit;
 
 /// Where a derivation is accepted, no interpretation of the constants makes all the assertions true
@@ -48,8 +49,9 @@ pub fn printed_derivations_are_accepted()
 
 /// The responses to a script, solved with just verdicts and without an error, as a transcript: the
 /// derivations among their items are those with which its `(get-proof)`s are answered, in order. So
-/// the check of the script and this transcript accepts one derivation for each `(get-proof)`, and
-/// refuses none.
+/// the check of an input that has the script up to its `(exit)`, and behind that the responses with
+/// any white space and comments between their tokens, accepts one derivation for each `(get-proof)`,
+/// and refuses none.
 pub fn transcripts_are_accepted()
     ensures copies { TranscriptsAreCopies }
     ensures checks { ChecksAcceptTranscripts }
@@ -59,5 +61,7 @@ pub fn transcripts_are_accepted()
     sessions_say_the_same();
     texts_have_tokens();
     items_have_tokens();
+    splitters_give_items();
+    items_have_all_tokens();
     codes_are_by_the_head();
 }

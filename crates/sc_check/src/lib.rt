@@ -13,7 +13,6 @@ mod checker;
 mod ending;
 mod finding;
 mod follow;
-mod gather;
 mod judge;
 mod laws;
 

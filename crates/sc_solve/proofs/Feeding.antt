@@ -1,77 +1,33 @@
--- Bytes that are read and fed piece by piece.
-use Rattle.std.proofs.Common.{◌≡◌, ℕ, ◌+◌, ◌-◌, ◌<◌, ◌≤◌, true, List, [], ◌++◌, length, arith, inl, inr, refl, sym, ap, ◌∙◌, append_assoc, append-nil, subst}
-use Rattle.std.proofs.lemmas.List.{length-append}
+-- What a splitter has that was filled with the input.
+use Rattle.std.proofs.Common.{◌≡◌, ℕ, ◌+◌, ◌<◌, true, List, [], ◌++◌, arith, inl, inr, refl, sym, ap, ◌∙◌, append-nil, subst}
 use Rattle.sc_io.specs.Moments.{SourceMoment}
-use Rattle.sc_io.specs.Reading.{IsRead}
-use Rattle.sc_io.proofs.Readings.{nothing_read, then_read, then_read_to_fault}
-use Rattle.std.specs.Prelude.{Option, Some, None}
-use Rattle.sc_sexpr.specs.declared.item.Last.{Last}
-use Rattle.sc_sexpr.specs.Scans.{items_of}
-use Rattle.sc_sexpr.specs.View.{View, keeping, fed, fresh_view}
-use Rattle.sc_sexpr.specs.Laws.{reading_by}
-use Rattle.sc_sexpr.proofs.Work.{reader}
+use Rattle.sc_sexpr.specs.Scans.{start, reads}
+use Rattle.sc_sexpr.specs.View.{View, fresh_view}
+use Rattle.sc_sexpr.specs.Laws.{reading_of}
 use Rattle.sc_session.specs.Scripts.{most_bytes}
-use Rattle.sc_solve.specs.declared.gather.GatherError.{GatherError}
-use Rattle.sc_solve.specs.declared.gather.GatherError.TheVariants as errors
-use Rattle.sc_solve.specs.Gathering.{IsFed, FeedsPiece, IsOver, IsGathered, StopsPiece, Stops, IsSplit}
+use Rattle.sc_input.specs.declared.gathering.Reach.{Reach}
+use Rattle.sc_input.specs.declared.gathering.Reach.TheVariants as reach
+use Rattle.sc_input.specs.Gathering as input
+use Rattle.sc_solve.specs.Gathering.{IsCutOff, IsGathered, IsSplit}
 
--- ---- one piece
-pub fed_more : (old new : View) (piece bytes : List ℕ) → new ≡ keeping new.kept (fed old piece) → IsFed old bytes → IsFed new (bytes ++ piece)
-fed_more old new piece bytes e f =
-    subst (λ v. IsFed v (bytes ++ piece)) (sym e) (record {
-      fed = λ more. reader.keeps (fed old piece) new.kept more ∙ reader.feeds old piece more ∙ f.fed (piece ++ more) ∙ ap (items_of most_bytes) (sym (append_assoc bytes piece more));
-      unfinished = f.unfinished;
-    })
+module _ (a b : SourceMoment) (old new : View) where
+  gathered : (r : Reach) → input.Gathered a b (input.IsFilled old new) (most_bytes + 1) r → (text : List ℕ) × IsGathered a b text × input.IsFilled old new text
+  gathered reach.End g = (g.text, record { read = g.read; whole = inl g.reaches.0; most = omega (arith, g.reaches.1) }, g.fed)
+  gathered reach.Most g = (g.text, record { read = g.read; whole = inr (omega (arith, g.reaches)); most = omega (arith, g.reaches) }, g.fed)
 
-pub feeds : (a b : SourceMoment) (old new : View) (piece : List ℕ) (most count : ℕ) → 0 < count → count ≤ most → length piece ≡ count → IsRead a b piece → new ≡ keeping new.kept (fed old piece) → FeedsPiece a b old new most count
-feeds a b old new piece most count some le size read e = record { piece = piece; some = some; at_most = le; size = size; read = read; fed = λ bytes f. fed_more old new piece bytes e f }
+  split : (text : List ℕ) → old ≡ fresh_view most_bytes → input.IsFilled old new text → IsSplit new text
+  split text fresh e =
+      let fed : new ≡ record (fresh_view most_bytes) { unread = text; last = true; piece = new.piece; waiting = new.waiting; kept = new.kept } =
+      e ∙ ap (λ (v : View). let w : View = record v { unread = v.unread ++ text; last = true; piece = new.piece; waiting = new.waiting; kept = new.kept } in w) fresh in
+      record {
+        items = ap (λ (v : View). reading_of v []) fed ∙ ap (λ bytes. reads most_bytes start [] most_bytes bytes) (append-nil text);
+        finished = ap (λ (v : View). v.last) fed;
+      }
 
--- ---- all pieces
--- so much of the text was read and fed, and so many more bytes may be
-pub record IsFilling (before after : SourceMoment) (v : View) (left : ℕ) : Type 0 where
-  pub text : List ℕ
-  pub read : IsRead before after text
-  pub size : length text + left ≡ most_bytes + 1
-  pub fed : IsFed v text
+  -- the input was read, and the splitter has it
+  pub is_split : (r : Reach) → old ≡ fresh_view most_bytes → input.Gathered a b (input.IsFilled old new) (most_bytes + 1) r → (text : List ℕ) × IsGathered a b text × IsSplit new text
+  is_split r fresh g = let t = gathered r g in (t.0, t.1, split t.0 fresh t.2)
 
-pub fills : (a : SourceMoment) (v : View) → IsFed v [] → IsFilling a a v (most_bytes + 1)
-fills a v f = record { text = []; read = nothing_read a; size = refl; fed = f }
-
-module _ (a b c : SourceMoment) (v w : View) (left : ℕ) (so_far : IsFilling a b v left) where
-  -- a piece more
-  pub grows : (count : ℕ) → FeedsPiece b c v w left count → IsFilling a c w (left - count)
-  grows count g = record {
-    text = so_far.text ++ g.piece;
-    read = then_read a b c so_far.text g.piece so_far.read g.read;
-    size = omega (arith, length-append so_far.text g.piece, g.size, so_far.size, g.at_most);
-    fed = g.fed so_far.text so_far.fed;
-  }
-
-  -- no piece more
-  pub ends : IsOver b c v w → (text : List ℕ) × IsGathered a c text × IsFed w text
-  ends o = (
-    so_far.text,
-    record { read = subst (IsRead a c) (append-nil so_far.text) (then_read a b c so_far.text [] so_far.read o.read); whole = inl o.at_end; most = omega (arith, so_far.size) },
-    subst (λ x. IsFed x so_far.text) (sym o.same) so_far.fed,
-  )
-
-  -- a fault, or want of memory
-  pub stops : 0 < left → (e : GatherError) → StopsPiece b c left e → Stops a c e
-  stops some errors.Failed s = record { bytes = so_far.text ++ []; at_most = omega (arith, length-append so_far.text [], so_far.size, some); read = then_read_to_fault a b c so_far.text [] so_far.read s }
-  stops some errors.Memory s = record { bytes = so_far.text ++ s.bytes; at_most = omega (arith, length-append so_far.text s.bytes, so_far.size, s.at_most); read = then_read a b c so_far.text s.bytes so_far.read s.read }
-
--- one byte too many
-pub too_long : (a b : SourceMoment) (v : View) (left : ℕ) → left ≡ 0 → IsFilling a b v left → (text : List ℕ) × IsGathered a b text × IsFed v text
-too_long a b v left none f = (f.text, record { read = f.read; whole = inr (omega (arith, f.size, none)); most = omega (arith, f.size, none) }, f.fed)
-
--- ---- the whole input
-pub fresh_fed : (v : View) → v ≡ fresh_view most_bytes → IsFed v []
-fresh_fed v e = subst (λ x. IsFed x []) (sym e) (record { fed = λ more. reader.begins most_bytes more; unfinished = refl })
-
-same_reading : (o : Option Last) (v : View) → reading_by o (record v { last = true }) [] ≡ reading_by o v []
-same_reading None v = refl
-same_reading (Some l) v = refl
-
-pub is_split : (v w : View) (text : List ℕ) → IsFed v text → w ≡ record v { last = true } → IsSplit w text
-is_split v w text f e =
-    subst (λ x. IsSplit x text) (sym e) (record { items = same_reading v.over v ∙ f.fed [] ∙ ap (items_of most_bytes) (append-nil text); finished = refl })
+  -- behind one byte more than a script may have no read comes, and so no fault
+  pub is_cut_off : input.IsCutOff a b (most_bytes + 1) → IsCutOff a b most_bytes
+  is_cut_off c = record { bytes = c.bytes; at_most = omega (arith, c.fewer); read = c.read }

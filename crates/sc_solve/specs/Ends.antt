@@ -8,7 +8,8 @@ use Rattle.sc_session.specs.Scripts.{Script, IsScriptOf, Reads, most_bytes}
 use Rattle.sc_session.specs.Courses.{course_of, HasVerdicts, HasFirstVerdicts}
 use Rattle.sc_solve.specs.declared.ending.Ending.{Ending}
 use Rattle.sc_solve.specs.declared.ending.Ending.TheVariants.{Done, Error, ReadFault, WriteFault, Memory}
-use Rattle.sc_solve.specs.Gathering.{IsGathered, IsCutOff, IsReadInPart}
+use Rattle.sc_input.specs.Gathering.{IsReadInPart}
+use Rattle.sc_solve.specs.Gathering.{IsGathered, IsCutOff}
 
 -- the outside at a moment
 pub record Moment : Type 0 where

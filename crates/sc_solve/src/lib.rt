@@ -5,7 +5,6 @@
 #![tactic(auto)]
 
 mod ending;
-mod gather;
 mod respond;
 mod solver;
 

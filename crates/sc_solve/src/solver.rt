@@ -5,13 +5,16 @@ ghost use Rattle.sc_session.specs.States.{start};
 ghost use Rattle.sc_solve.specs.Ends.{at_moment, SolveEnds};
 
 use crate::ending::Ending;
-use crate::gather::{GatherError, gather};
 use crate::respond::respond;
+use sc_input::{GatherError, gather};
 use sc_io::{Sink, Source};
 use sc_session::{Session, Verdicts, scripts_are_read};
-use sc_sexpr::long_texts_are_cut;
+use sc_sexpr::{Splitter, long_texts_are_cut};
 use sc_tree::Decider;
 use std::alloc::Global;
+
+/// The most bytes of a script.
+const MOST_BYTES: usize = 16_777_216;
 
 /// How solving ended, and the verdicts of the check-sats that were done.
 #[derive(Drop)]
@@ -37,8 +40,9 @@ fn run<S: Source, O: Sink, D: Decider>(
 {
     scripts_are_read();
     long_texts_are_cut();
-    match gather(alloc, source) {
-        Ok(mut splitter) => {
+    let mut splitter = Splitter::new(alloc, MOST_BYTES as u64);
+    match gather(source, &mut splitter, MOST_BYTES + 1) {
+        Ok(_) => {
             let ending = respond(alloc, &mut splitter, session, budget, decider, out);
             return ending;
         }
