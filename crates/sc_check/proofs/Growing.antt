@@ -18,7 +18,7 @@ use Rattle.sc_elab.specs.Sorts.{sort_of}
 use Rattle.sc_session.specs.declared.tracing.Traced.{Traced}
 use Rattle.sc_session.specs.declared.tracing.Traced.TheVariants as traced
 use Rattle.sc_session.specs.Scripts.{Item}
-use Rattle.sc_session.specs.States.{State, moved_on}
+use Rattle.sc_session.specs.States.{State}
 use Rattle.sc_session.specs.Effects.{Effect, declares, is_taken, declare_of, is_empty_list, assert_of, most_checks}
 use Rattle.sc_session.specs.Tracing.{Trace, followed, trace, trace_of, step, GoesOn}
 use Rattle.sc_session.proofs.Standing.{still_formulas, sort_asserts_none, constant_asserts_none, one_more_assertion}
@@ -70,15 +70,15 @@ module _ (grows : Elaborates) (s : State) (sound : IsSound s) (line : ℕ) where
     };
   }
 
-  declares_leave : (fault : Option Code) (names : Names) → assertions_in_force names ≡ assertions_in_force s.names → Leaves (declares fault names (moved_on s) line)
+  declares_leave : (fault : Option Code) (names : Names) → assertions_in_force names ≡ assertions_in_force s.names → Leaves (declares fault names s line)
   declares_leave (Some c) names e g = absurd g
   declares_leave None names e g = stays _ refl e
 
-  declared_leaves : (sort : Result Sort Code) (name : List ℕ) → Leaves (declare_of sort name (moved_on s) line)
+  declared_leaves : (sort : Result Sort Code) (name : List ℕ) → Leaves (declare_of sort name s line)
   declared_leaves (Err c) name g = absurd g
   declared_leaves (Ok sort) name g = declares_leave (fault_of s.names name (length s.names.constants)) (with_constant s.names (record { name = name; sort = sort })) (constant_asserts_none s.names (record { name = name; sort = sort })) g
 
-  asserted_leaves : (term : Shape) (o : Outcome ℕ) → core term (record { bank = s.bank; names = s.names }) ≡ o → Leaves (assert_of o (moved_on s) line)
+  asserted_leaves : (term : Shape) (o : Outcome ℕ) → core term (record { bank = s.bank; names = s.names }) ≡ o → Leaves (assert_of o s line)
   asserted_leaves term (Fault c bank) is g = absurd g
   asserted_leaves term (Done n bank) is g =
       let made = grows term (record { bank = s.bank; names = s.names }) n bank sound.bank is in

@@ -120,7 +120,7 @@ module _
     other : ((ns : List ℕ) → (step (beside s []) i).given ≡ traced.Proof ns → ⊥) → (e : Effect) → turn s i ≡ e → Just e → Meets final before asked (proofs_after e s vs rest)
     other unasked (Answers (said.Text bytes) t) e just =
         let step_is = along.answered s t [] i (said.Text bytes) e in
-        quietly t vs _ (refute.goes_on s t i (said.Text bytes) proves e) just step_is.0 (known_quiet s bytes (step (beside s []) i).given unasked step_is.1)
+        quietly t vs _ (refute.goes_on s t i bytes proves e) just step_is.0 (known_quiet s bytes (step (beside s []) i).given unasked step_is.1)
     other unasked (Answers (said.Error bytes) t) e just = no_more
     other unasked (Answers (said.Exit bytes) t) e just = no_more
     other unasked (Checks problem) e just = checks problem vs e just

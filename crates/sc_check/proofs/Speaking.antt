@@ -42,7 +42,7 @@ use Rattle.sc_tree.specs.declared.verdict.Verdict.TheVariants.{Sat, Unsat, Unkno
 use Rattle.sc_tree.specs.Verdicts.{IsJust}
 use Rattle.sc_session.specs.Said as said
 use Rattle.sc_session.specs.Scripts.{Item}
-use Rattle.sc_session.specs.States.{State, moved_on, with_verdict, proof}
+use Rattle.sc_session.specs.States.{State, with_verdict, proof}
 use Rattle.sc_session.specs.Effects.{Effect, Answers, Checks, line_of, declares, is_taken, declare_of, is_empty_list, assert_of, most_checks, get_proof, effect_of, turn, verdict_line}
 use Rattle.sc_session.specs.Meaning.{Assertion}
 use Rattle.sc_session.specs.Courses.{Course, at_last, course_after, course, just_after, AreJust}
@@ -226,15 +226,15 @@ kind_of (Ok SetInfo) = inr (inr (record { silent = λ s. refl; says = λ s line.
 kind_of (Ok (DeclareSort name arity)) =
     inr (inr (record {
       silent = λ s. refl;
-      says = λ s line. either Says (is_taken s.names name) _ _ tt (either Says (bytes_eq (codes "0") arity) _ _ (declares_says s line (fault_of s.names name (length s.names.sorts)) (with_sort s.names name) (moved_on s)) tt);
+      says = λ s line. either Says (is_taken s.names name) _ _ tt (either Says (bytes_eq (codes "0") arity) _ _ (declares_says s line (fault_of s.names name (length s.names.sorts)) (with_sort s.names name) s) tt);
     }))
-kind_of (Ok (DeclareConst name sort)) = inr (inr (record { silent = λ s. refl; says = λ s line. either Says (is_taken s.names name) _ _ tt (declared_says s line (sort_of s.names sort) name (moved_on s)) }))
+kind_of (Ok (DeclareConst name sort)) = inr (inr (record { silent = λ s. refl; says = λ s line. either Says (is_taken s.names name) _ _ tt (declared_says s line (sort_of s.names sort) name s) }))
 kind_of (Ok (DeclareFun name arguments range)) =
     inr (inr (record {
       silent = λ s. refl;
-      says = λ s line. either Says (is_taken s.names name) _ _ tt (either Says (is_empty_list arguments) _ _ (declared_says s line (sort_of s.names range) name (moved_on s)) tt);
+      says = λ s line. either Says (is_taken s.names name) _ _ tt (either Says (is_empty_list arguments) _ _ (declared_says s line (sort_of s.names range) name s) tt);
     }))
-kind_of (Ok (Assert term)) = inr (inr (record { silent = λ s. refl; says = λ s line. asserted_says s line (core term (record { bank = s.bank; names = s.names })) (moved_on s) }))
+kind_of (Ok (Assert term)) = inr (inr (record { silent = λ s. refl; says = λ s line. asserted_says s line (core term (record { bank = s.bank; names = s.names })) s }))
 kind_of (Ok CheckSat) = inr (inr (record { silent = λ s. refl; says = λ s line. either Says (nat_le most_checks s.checks) _ _ tt tt }))
 kind_of (Ok GetProof) = inl refl
 kind_of (Ok (Echo text)) = inr (inl (text, refl))
@@ -274,7 +274,7 @@ module _ (refute : ProofsRefute) (same : SayTheSame) (items : ItemsHaveTokens) (
 
     quietly : (e : Effect) → turn s i ≡ e → Says e → Just e vs → Speaks None e vs
     quietly (Answers (said.Text bytes) t) e says just fine fits =
-        subst (λ x. Tells (x ++ (far t vs).bytes) (rest t vs)) (sym says) (ahead t vs _ (refute.goes_on s t i (said.Text bytes) proves e) just fine fits)
+        subst (λ x. Tells (x ++ (far t vs).bytes) (rest t vs)) (sym says) (ahead t vs _ (refute.goes_on s t i bytes proves e) just fine fits)
     quietly (Answers (said.Error bytes) t) e says just fine fits = failing fine
     quietly (Answers (said.Exit bytes) t) e says just fine fits = subst (λ x. Tells x []) (sym says) says_nothing
     quietly (Checks problem) e says just fine fits = checks problem vs e just fine fits

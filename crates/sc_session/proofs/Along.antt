@@ -15,7 +15,7 @@ use Rattle.sc_elab.specs.Sorts.{sort_of}
 use Rattle.sc_deriv.specs.declared.derivation.Derivation.{Derivation}
 use Rattle.sc_tree.specs.declared.verdict.Verdict.{Verdict}
 use Rattle.sc_session.specs.declared.tracing.Traced.TheVariants as traced
-use Rattle.sc_session.specs.States.{State, moved_on, with_check, derivation_of, proof}
+use Rattle.sc_session.specs.States.{State, with_check, derivation_of, proof}
 use Rattle.sc_session.specs.Effects.{Effect, Answers, Checks, declares, is_taken, declare_of, is_empty_list, assert_of, most_checks, get_proof, effect, effect_of}
 use Rattle.sc_session.specs.Tracing.{Trace, trace_by, followed, trace, trace_of}
 use Rattle.sc_session.specs.Proving.{beside, IsKnown, TracesGoAlong}
@@ -32,15 +32,15 @@ module _ (s : State) (verdicts : List Verdict) (line : ℕ) where
   abbrev Both : Effect → Effect → Type 0
   Both e f = Along e (followed (beside s verdicts) f)
 
-  declares_go : (fault : Option Code) (names : Names) → Both (declares fault names (moved_on s) line) (declares fault names (moved_on (beside s verdicts)) line)
+  declares_go : (fault : Option Code) (names : Names) → Both (declares fault names s line) (declares fault names (beside s verdicts) line)
   declares_go (Some c) names = (refl, inl refl)
   declares_go None names = (refl, inl refl)
 
-  declared_goes : (sort : Result Sort Code) (name : List ℕ) → Both (declare_of sort name (moved_on s) line) (declare_of sort name (moved_on (beside s verdicts)) line)
+  declared_goes : (sort : Result Sort Code) (name : List ℕ) → Both (declare_of sort name s line) (declare_of sort name (beside s verdicts) line)
   declared_goes (Err c) name = (refl, inl refl)
   declared_goes (Ok sort) name = declares_go (fault_of s.names name (length s.names.constants)) (with_constant s.names (record { name = name; sort = sort }))
 
-  asserted_goes : (o : Outcome ℕ) → Both (assert_of o (moved_on s) line) (assert_of o (moved_on (beside s verdicts)) line)
+  asserted_goes : (o : Outcome ℕ) → Both (assert_of o s line) (assert_of o (beside s verdicts) line)
   asserted_goes (Fault c bank) = (refl, inl refl)
   asserted_goes (Done n bank) = (refl, inl refl)
 

@@ -27,22 +27,23 @@ use Rattle.sc_tree.specs.Verdicts.{IsJust}
 use Rattle.sc_session.specs.declared.response.Response.{Response}
 use Rattle.sc_session.specs.declared.response.Response.TheVariants as response
 use Rattle.sc_session.specs.Scripts.{Item, IsTold}
-use Rattle.sc_session.specs.States.{State, state, with_bank, with_names, moved_on}
-use Rattle.sc_session.specs.Effects.{Effect, Answers, Checks, refuses, declares, is_taken, if_free, declare_sort, declare, declare_of, is_empty_list, assert_of, check_sat, most_checks, declares_sort, effect_of, turn, verdict_line}
-use Rattle.sc_session.specs.Doing.{IsTold as IsAnswer, Does, said_by}
+use Rattle.sc_session.specs.States.{State, state, with_bank}
+use Rattle.sc_session.specs.Effects.{Effect, Checks, refuses, declares, is_taken, if_free, declare_sort, declare, declare_of, is_empty_list, assert_of, check_sat, most_checks, declares_sort, effect_of, turn, verdict_line}
+use Rattle.sc_session.specs.Doing.{IsTold as IsAnswer, current_behind, Does, said_by}
 use Rattle.sc_session.proofs.Trees.{one_shape}
 
 -- a declaration that was tried, and its response
-pub declares_does : (old : State) (line b : ℕ) (fault : Option Code) (made names : Names) (number : ℕ) (tried : Result ℕ StackError) (result : Result Response Memory) → Declares old.names fault made number tried names → IfOk result (IsAnswer tried line) → Does old (declares fault made old line) b result (with_names old names)
-declares_does old line b (Some code) made names number tried (Err e) d told = refl
-declares_does old line b None made names number tried (Err e) d told = refl
-declares_does old line b (Some code) made names number (Ok n) (Ok r) d told = absurd (let e : Some code ≡ None = d.0 in cc)
-declares_does old line b None made names number (Ok n) (Ok r) d told = (ap (λ q. said_by q (with_names old names)) told, ap (with_names old) d.2)
-declares_does old line b (Some code) made names number (Err (errors.Fault c)) (Ok r) d told =
+pub declares_does : (old : State) (line b : ℕ) (fault : Option Code) (made names : Names) (number : ℕ) (tried : Result ℕ StackError) (current : Bool) (result : Result Response Memory) → Declares old.names fault made number tried names → IfOk result (IsAnswer tried line) → current ≡ current_behind tried old.current → Does old (declares fault made old line) b result (state old.bank names old.verdicts old.checks current)
+declares_does old line b (Some code) made names number tried current (Err e) d told moves = refl
+declares_does old line b None made names number tried current (Err e) d told moves = refl
+declares_does old line b None made names number (Ok n) current (Ok r) d told moves =
+    (ap (λ q. said_by q (state old.bank names old.verdicts old.checks current)) told, ap (λ ns. state old.bank ns old.verdicts old.checks current) d.2 ∙ ap (state old.bank made old.verdicts old.checks) moves)
+declares_does old line b (Some code) made names number (Ok n) current (Ok r) d told moves = absurd (let e : Some code ≡ None = d.0 in cc)
+declares_does old line b (Some code) made names number (Err (errors.Fault c)) current (Ok r) d told moves =
     let same : code ≡ c = cc in
-    (ap (λ q. said_by q (with_names old names)) (subst (λ k. r ≡ response.Error (spelt_error line k)) (sym same) told), ap (with_names old) d.1)
-declares_does old line b None made names number (Err (errors.Fault c)) (Ok r) d told = absurd (let e : None ≡ Some c = d.0 in cc)
-declares_does old line b fault made names number (Err errors.Memory) (Ok r) d told = absurd told
+    (ap (λ q. said_by q (state old.bank names old.verdicts old.checks current)) (subst (λ k. r ≡ response.Error (spelt_error line k)) (sym same) told), ap (λ ns. state old.bank ns old.verdicts old.checks current) d.1 ∙ ap (state old.bank old.names old.verdicts old.checks) moves)
+declares_does old line b None made names number (Err (errors.Fault c)) current (Ok r) d told moves = absurd (let e : None ≡ Some c = d.0 in cc)
+declares_does old line b fault made names number (Err errors.Memory) current (Ok r) d told moves = absurd told
 
 -- ---- what a call finds of its session v, which is s
 -- the name is free
@@ -50,17 +51,17 @@ pub if_free_does : (s v : State) (name : List ℕ) (line b : ℕ) (free : State 
 if_free_does s v name line b free r new e taken h =
     subst (λ c. Does s (if c then refuses line code.E9 s else free s) b r new) (sym (subst (λ x. is_taken x.names name ≡ false) e taken)) h
 
-pub sort_declared : (s v : State) (name arity : List ℕ) (line b : ℕ) (names : Names) (tried : Result ℕ StackError) (r : Result Response Memory) → v ≡ s → is_taken v.names name ≡ false → bytes_eq (codes "0") arity ≡ true → DeclaresSort v.names name tried names → IfOk r (IsAnswer tried line) → Does s (declares_sort s name arity line) b r (with_names v names)
-sort_declared s v name arity line b names tried r e taken zero d told =
-    if_free_does s v name line b (λ x. if bytes_eq (codes "0") arity then declare_sort name x line else refuses line code.E8 x) r (with_names v names) e taken
-    (subst (λ c. Does s (if c then declare_sort name s line else refuses line code.E8 s) b r (with_names v names)) (sym zero)
-    (subst (λ x. Does x (declare_sort name x line) b r (with_names v names)) e (declares_does v line b (fault_of v.names name (length v.names.sorts)) (with_sort v.names name) names (length v.names.sorts + 1) tried r d told)))
+pub sort_declared : (s v : State) (name arity : List ℕ) (line b : ℕ) (names : Names) (tried : Result ℕ StackError) (current : Bool) (r : Result Response Memory) → v ≡ s → is_taken v.names name ≡ false → bytes_eq (codes "0") arity ≡ true → DeclaresSort v.names name tried names → IfOk r (IsAnswer tried line) → current ≡ current_behind tried v.current → Does s (declares_sort s name arity line) b r (state v.bank names v.verdicts v.checks current)
+sort_declared s v name arity line b names tried current r e taken zero d told moves =
+    if_free_does s v name line b (λ x. if bytes_eq (codes "0") arity then declare_sort name x line else refuses line code.E8 x) r (state v.bank names v.verdicts v.checks current) e taken
+    (subst (λ c. Does s (if c then declare_sort name s line else refuses line code.E8 s) b r (state v.bank names v.verdicts v.checks current)) (sym zero)
+    (subst (λ x. Does x (declare_sort name x line) b r (state v.bank names v.verdicts v.checks current)) e (declares_does v line b (fault_of v.names name (length v.names.sorts)) (with_sort v.names name) names (length v.names.sorts + 1) tried current r d told moves)))
 
-pub constant_declared : (s v : State) (name : List ℕ) (shape : Shape) (line b : ℕ) (sort : Sort) (names : Names) (tried : Result ℕ StackError) (r : Result Response Memory) → v ≡ s → Ok sort ≡ sort_of v.names shape → DeclaresConstant v.names (record { name = name; sort = sort }) tried names → IfOk r (IsAnswer tried line) → Does s (declare name shape s line) b r (with_names v names)
-constant_declared s v name shape line b sort names tried r e is d told =
-    subst (λ x. Does x (declare name shape x line) b r (with_names v names)) e
-    (subst (λ o. Does v (declare_of o name v line) b r (with_names v names)) is
-    (declares_does v line b (fault_of v.names name (length v.names.constants)) (with_constant v.names (record { name = name; sort = sort })) names (length v.names.constants + 1) tried r d told))
+pub constant_declared : (s v : State) (name : List ℕ) (shape : Shape) (line b : ℕ) (sort : Sort) (names : Names) (tried : Result ℕ StackError) (current : Bool) (r : Result Response Memory) → v ≡ s → Ok sort ≡ sort_of v.names shape → DeclaresConstant v.names (record { name = name; sort = sort }) tried names → IfOk r (IsAnswer tried line) → current ≡ current_behind tried v.current → Does s (declare name shape s line) b r (state v.bank names v.verdicts v.checks current)
+constant_declared s v name shape line b sort names tried current r e is d told moves =
+    subst (λ x. Does x (declare name shape x line) b r (state v.bank names v.verdicts v.checks current)) e
+    (subst (λ o. Does v (declare_of o name v line) b r (state v.bank names v.verdicts v.checks current)) is
+    (declares_does v line b (fault_of v.names name (length v.names.constants)) (with_constant v.names (record { name = name; sort = sort })) names (length v.names.constants + 1) tried current r d told moves))
 
 pub is_asserted : (s v : State) (term : Shape) (line b n : ℕ) (bank : List Node) (r : Result Response Memory) (new : State) → v ≡ s → core term (record { bank = v.bank; names = v.names }) ≡ outcomes.Done n bank → ((old : State) (k : ℕ) → with_bank v bank ≡ with_bank old bank → Does old (assert_of (outcomes.Done n bank) old line) k r new) → Does s (assert_of (core term (record { bank = s.bank; names = s.names })) s line) b r new
 is_asserted s v term line b n bank r new e is h =
@@ -108,15 +109,3 @@ item_does s text line b t c r new tokens is h i told =
     let same : t ≡ i.shape = one_shape (place_of text line) t i.shape tokens told.tokens in
     subst (λ l. Does s (effect_of (command_of i.shape) s l) b r new) (sym told.line)
     (subst (λ o. Does s (effect_of o s line) b r new) (is ∙ ap command_of same) h)
-
--- ---- a declaration or an assertion comes
--- whether a check-sat was current doesn't matter any more
-again : (bank : List Node) (names : Names) (vs : List Verdict) (checks : ℕ) (x y : Bool) (e : Effect) (b : ℕ) (r : Result Response Memory) (new : State) → Does (state bank names vs checks x) e b r new → Does (state bank names vs checks y) e b r new
-again bank names vs checks x y (Answers q t) b (Ok given) new h = h
-again bank names vs checks x y (Checks problem) b (Ok given) new h = h
-again bank names vs checks x y (Answers q t) b (Err m) new h = h
-again bank names vs checks x y (Checks problem) b (Err m) new h = h
-
-pub moved_does : (s : State) (bank : List Node) (names : Names) (vs : List Verdict) (checks : ℕ) (current : Bool) (f : State → Effect) (b : ℕ) (r : Result Response Memory) (new : State) → state bank names vs checks current ≡ s → Does (state bank names vs checks false) (f (state bank names vs checks false)) b r new → Does s (f (moved_on s)) b r new
-moved_does s bank names vs checks current f b r new e h =
-    subst (λ x. Does x (f (moved_on x)) b r new) e (again bank names vs checks false current (f (state bank names vs checks false)) b r new h)

@@ -19,7 +19,7 @@ use Rattle.sc_session.specs.declared.response.Response.TheVariants as response
 use Rattle.sc_session.specs.Said as said
 use Rattle.sc_session.specs.declared.tracing.Traced.{Traced}
 use Rattle.sc_session.specs.declared.tracing.Traced.TheVariants as traced
-use Rattle.sc_session.specs.States.{State, moved_on}
+use Rattle.sc_session.specs.States.{State}
 use Rattle.sc_session.specs.Effects.{Effect, Answers, Checks, declares, is_taken, declare_of, is_empty_list, assert_of, effect}
 use Rattle.sc_session.specs.Doing.{HasEffect, said_by}
 use Rattle.sc_session.specs.Tracing.{Trace, given_by, followed, trace, trace_of, is_quick, IsTraced, IsStepped}
@@ -53,15 +53,15 @@ agree s (Answers (said.Exit b) t) (response.Error x) new a h = absurd (let e = h
 agree s (Answers (said.Exit b) t) (response.Exit x) new a h = (refl, h.1)
 
 module _ (s : State) (line : ℕ) where
-  declares_answer : (fault : Option Code) (names : Names) → IsAnswer (declares fault names (moved_on s) line)
+  declares_answer : (fault : Option Code) (names : Names) → IsAnswer (declares fault names s line)
   declares_answer (Some c) names = tt
   declares_answer None names = tt
 
-  declared_answers : (sort : Result Sort Code) (name : List ℕ) → IsAnswer (declare_of sort name (moved_on s) line)
+  declared_answers : (sort : Result Sort Code) (name : List ℕ) → IsAnswer (declare_of sort name s line)
   declared_answers (Err c) name = tt
   declared_answers (Ok sort) name = declares_answer (fault_of s.names name (length s.names.constants)) (with_constant s.names (record { name = name; sort = sort }))
 
-  asserted_answers : (o : Outcome ℕ) → IsAnswer (assert_of o (moved_on s) line)
+  asserted_answers : (o : Outcome ℕ) → IsAnswer (assert_of o s line)
   asserted_answers (Fault c bank) = tt
   asserted_answers (Done n bank) = tt
 

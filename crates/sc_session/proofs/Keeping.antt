@@ -16,7 +16,7 @@ use Rattle.sc_elab.specs.Elab.{core}
 use Rattle.sc_elab.specs.Sorts.{sort_of}
 use Rattle.sc_session.specs.Said.{Text, Error, Exit as Ends}
 use Rattle.sc_session.specs.declared.tracing.Traced.TheVariants as traced
-use Rattle.sc_session.specs.States.{State, moved_on, IsSession}
+use Rattle.sc_session.specs.States.{State, IsSession}
 use Rattle.sc_session.specs.Effects.{Effect, Answers, Checks, declares, is_taken, declare_of, is_empty_list, assert_of, most_checks, effect}
 use Rattle.sc_session.specs.Tracing.{Trace, followed, trace, trace_of, GoesOn, TracesKeep}
 use Rattle.sc_session.proofs.Standing.{still_formulas}
@@ -36,15 +36,15 @@ module _ (grows : (t : Shape) (e : Elaborating) (n : ℕ) (bank : List Node) →
   abbrev Leaves : Effect → Type 0
   Leaves e = Keeps (followed s e)
 
-  declares_leave : (fault : Option Code) (names : Names) → Leaves (declares fault names (moved_on s) line)
+  declares_leave : (fault : Option Code) (names : Names) → Leaves (declares fault names s line)
   declares_leave (Some c) names g h = absurd g
   declares_leave None names g h = h
 
-  declared_leaves : (sort : Result Sort Code) (name : List ℕ) → Leaves (declare_of sort name (moved_on s) line)
+  declared_leaves : (sort : Result Sort Code) (name : List ℕ) → Leaves (declare_of sort name s line)
   declared_leaves (Err c) name g h = absurd g
   declared_leaves (Ok sort) name g h = declares_leave (fault_of s.names name (length s.names.constants)) (with_constant s.names (record { name = name; sort = sort })) g h
 
-  asserted_leaves : (term : Shape) (o : Outcome ℕ) → core term (record { bank = s.bank; names = s.names }) ≡ o → Leaves (assert_of o (moved_on s) line)
+  asserted_leaves : (term : Shape) (o : Outcome ℕ) → core term (record { bank = s.bank; names = s.names }) ≡ o → Leaves (assert_of o s line)
   asserted_leaves term (Fault c bank) is g h = absurd g
   asserted_leaves term (Done n bank) is g h = still_formulas s.bank bank ns (grows term (record { bank = s.bank; names = s.names }) n bank session.bank is).1 h
 

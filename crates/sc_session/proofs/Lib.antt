@@ -6,5 +6,6 @@ pub mod Whole
 pub mod Saying
 pub mod Keeping
 pub mod Following
+pub mod Refusing
 pub mod Proving
 pub mod Along

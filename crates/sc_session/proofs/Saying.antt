@@ -53,9 +53,9 @@ module _ (s t : State) (line : ℕ) (bytes : List ℕ) where
   branch true x y f g e = f e
   branch false x y f g e = g e
 
-  declared_is : (fault : Option Code) (names : Names) → declares fault names s line ≡ Answers (response.Text bytes) t → t ≡ with_names s names
+  declared_is : (fault : Option Code) (names : Names) → declares fault names s line ≡ Answers (response.Text bytes) t → t ≡ moved_on (with_names s names)
   declared_is (Some c) names e = refused c s e
-  declared_is None names e = quiet_is (with_names s names) e
+  declared_is None names e = quiet_is (moved_on (with_names s names)) e
 
 -- ---- what a command does to the verdicts
 either : {A : Type 0} (P : A → Type 0) (b : Bool) (x y : A) → P x → P y → P (if b then x else y)
@@ -68,19 +68,17 @@ module _ (s : State) (line : ℕ) where
   Leaves (Answers r t) = t.verdicts ≡ s.verdicts
   Leaves (Checks problem) = problem ≡ stock s.bank (assertions_in_force s.names)
 
-  -- what follows on a session with the same terms, names and verdicts
-  module _ (u : State) (verdicts : u.verdicts ≡ s.verdicts) where
-    declares_leave : (fault : Option Code) (names : Names) → Leaves (declares fault names u line)
-    declares_leave (Some c) names = verdicts
-    declares_leave None names = verdicts
+  declares_leave : (fault : Option Code) (names : Names) → Leaves (declares fault names s line)
+  declares_leave (Some c) names = refl
+  declares_leave None names = refl
 
-    declared_leaves : (sort : Result Sort Code) (name : List ℕ) → Leaves (declare_of sort name u line)
-    declared_leaves (Err c) name = verdicts
-    declared_leaves (Ok sort) name = declares_leave (fault_of u.names name (length u.names.constants)) (with_constant u.names (record { name = name; sort = sort }))
+  declared_leaves : (sort : Result Sort Code) (name : List ℕ) → Leaves (declare_of sort name s line)
+  declared_leaves (Err c) name = refl
+  declared_leaves (Ok sort) name = declares_leave (fault_of s.names name (length s.names.constants)) (with_constant s.names (record { name = name; sort = sort }))
 
-    asserted_leaves : (o : Outcome ℕ) → Leaves (assert_of o u line)
-    asserted_leaves (Fault c bank) = verdicts
-    asserted_leaves (Done n bank) = verdicts
+  asserted_leaves : (o : Outcome ℕ) → Leaves (assert_of o s line)
+  asserted_leaves (Fault c bank) = refl
+  asserted_leaves (Done n bank) = refl
 
   proof_leaves : (d : Option Derivation) → Leaves (get_proof d s line)
   proof_leaves (Some d) = refl
@@ -89,10 +87,10 @@ module _ (s : State) (line : ℕ) where
   command_leaves : (c : CommandShape) → Leaves (effect s c line)
   command_leaves SetLogic = refl
   command_leaves SetInfo = refl
-  command_leaves (DeclareSort name arity) = either Leaves (is_taken s.names name) _ _ refl (either Leaves (bytes_eq (codes "0") arity) _ _ (declares_leave (moved_on s) refl (fault_of s.names name (length s.names.sorts)) (with_sort s.names name)) refl)
-  command_leaves (DeclareConst name sort) = either Leaves (is_taken s.names name) _ _ refl (declared_leaves (moved_on s) refl (sort_of s.names sort) name)
-  command_leaves (DeclareFun name arguments range) = either Leaves (is_taken s.names name) _ _ refl (either Leaves (is_empty_list arguments) _ _ (declared_leaves (moved_on s) refl (sort_of s.names range) name) refl)
-  command_leaves (Assert term) = asserted_leaves (moved_on s) refl (core term (record { bank = s.bank; names = s.names }))
+  command_leaves (DeclareSort name arity) = either Leaves (is_taken s.names name) _ _ refl (either Leaves (bytes_eq (codes "0") arity) _ _ (declares_leave (fault_of s.names name (length s.names.sorts)) (with_sort s.names name)) refl)
+  command_leaves (DeclareConst name sort) = either Leaves (is_taken s.names name) _ _ refl (declared_leaves (sort_of s.names sort) name)
+  command_leaves (DeclareFun name arguments range) = either Leaves (is_taken s.names name) _ _ refl (either Leaves (is_empty_list arguments) _ _ (declared_leaves (sort_of s.names range) name) refl)
+  command_leaves (Assert term) = asserted_leaves (core term (record { bank = s.bank; names = s.names }))
   command_leaves CheckSat = either Leaves (nat_le most_checks s.checks) (refuses line (code.E16 most_checks) s) (Checks (stock s.bank (assertions_in_force s.names))) refl refl
   command_leaves GetProof = proof_leaves (proof s)
   command_leaves (Echo literal) = refl
@@ -124,7 +122,7 @@ module _
       ap (λ bank. map (bank_meaning bank i).truth (assertions_in_force t.names)) banks ∙ ap (map (bank_meaning s.bank i).truth) forces ∙ says i p ∙ ap (map (is_true i)) (sym (append-nil terms))
 
   -- one more assertion
-  more_says : (s : State) (terms : List Assertion) (term : Shape) (n : ℕ) (bank : List Node) → IsSession s → Says s terms → core term (record { bank = s.bank; names = s.names }) ≡ Done n bank → Says (with_names (with_bank s bank) (with_assertion s.names n)) (terms ++ record { term = term; names = s.names } ∷ [])
+  more_says : (s : State) (terms : List Assertion) (term : Shape) (n : ℕ) (bank : List Node) → IsSession s → Says s terms → core term (record { bank = s.bank; names = s.names }) ≡ Done n bank → Says (moved_on (with_names (with_bank s bank) (with_assertion s.names n))) (terms ++ record { term = term; names = s.names } ∷ [])
   more_says s terms term n bank session says is i p =
       let new : (bank_meaning bank i).truth n ≡ truth (term_value s.names i term) = truths term (record { bank = s.bank; names = s.names }) n bank session.bank is i p in
       let kept_all : map (bank_meaning bank i).truth (assertions_in_force s.names) ≡ map (bank_meaning s.bank i).truth (assertions_in_force s.names) = still_true (bank_meaning bank i).truth (bank_meaning s.bank i).truth (IsFormulaOf s.bank) (stays term (record { bank = s.bank; names = s.names }) n bank session.bank is i p) (assertions_in_force s.names) session.sorted.assertions in
@@ -139,7 +137,7 @@ module _
     unchanged : t ≡ s → Says t (terms ++ [])
     unchanged e = same_says s t terms (ap (λ (x : State). x.bank) e) (ap (λ (x : State). assertions_in_force x.names) e) says
 
-    named : (names : Names) → assertions_in_force names ≡ assertions_in_force s.names → t ≡ with_names s names → Says t (terms ++ [])
+    named : (names : Names) → assertions_in_force names ≡ assertions_in_force s.names → t ≡ moved_on (with_names s names) → Says t (terms ++ [])
     named names none e = same_says s t terms (ap (λ (x : State). x.bank) e) (ap (λ (x : State). assertions_in_force x.names) e ∙ none) says
 
     declared : (sort : Result Sort Code) (name : List ℕ) → declare_of sort name s line ≡ Answers (response.Text bytes) t → Says t (terms ++ [])
@@ -152,31 +150,27 @@ module _
     asserted : (term : Shape) (o : Outcome ℕ) → core term (record { bank = s.bank; names = s.names }) ≡ o → assert_of o s line ≡ Answers (response.Text bytes) t → Says t (terms ++ record { term = term; names = s.names } ∷ [])
     asserted term (Fault c bank) is e = refused s t line bytes c (with_bank s bank) e
     asserted term (Done n bank) is e =
-        subst (λ x. Says x (terms ++ record { term = term; names = s.names } ∷ [])) (sym (quiet_is s t line bytes (with_names (with_bank s bank) (with_assertion s.names n)) e)) (more_says s terms term n bank session says is)
+        subst (λ x. Says x (terms ++ record { term = term; names = s.names } ∷ [])) (sym (quiet_is s t line bytes (moved_on (with_names (with_bank s bank) (with_assertion s.names n))) e)) (more_says s terms term n bank session says is)
 
     proved : (d : Option Derivation) → get_proof d s line ≡ Answers (response.Text bytes) t → Says t (terms ++ [])
     proved (Some d) e = unchanged (sym (answered e).1)
     proved None e = refused s t line bytes code.E14 s e
 
   module _ (s t : State) (terms : List Assertion) (line : ℕ) (bytes : List ℕ) (session : IsSession s) (says : Says s terms) where
-    -- a session goes on as one before a declaration or an assertion does
-    moved : IsSession (moved_on s)
-    moved = record { bank = session.bank; names = session.names; sorted = session.sorted }
-
     commanded : (c : CommandShape) → effect s c line ≡ Answers (response.Text bytes) t → Says t (terms ++ asserts s.names c)
     commanded SetLogic e = unchanged s t terms line bytes session says (quiet_is s t line bytes s e)
     commanded SetInfo e = unchanged s t terms line bytes session says (quiet_is s t line bytes s e)
     commanded (DeclareSort name arity) e =
-        branch s t line bytes (is_taken s.names name) _ _ (λ q. refused s t line bytes code.E9 (moved_on s) q)
-        (branch s t line bytes (bytes_eq (codes "0") arity) _ _ (sort_declared (moved_on s) t terms line bytes moved says name) (λ q. refused s t line bytes code.E8 (moved_on s) q))
+        branch s t line bytes (is_taken s.names name) _ _ (λ q. refused s t line bytes code.E9 s q)
+        (branch s t line bytes (bytes_eq (codes "0") arity) _ _ (sort_declared s t terms line bytes session says name) (λ q. refused s t line bytes code.E8 s q))
         e
     commanded (DeclareConst name sort) e =
-        branch s t line bytes (is_taken s.names name) _ _ (λ q. refused s t line bytes code.E9 (moved_on s) q) (declared (moved_on s) t terms line bytes moved says (sort_of s.names sort) name) e
+        branch s t line bytes (is_taken s.names name) _ _ (λ q. refused s t line bytes code.E9 s q) (declared s t terms line bytes session says (sort_of s.names sort) name) e
     commanded (DeclareFun name arguments range) e =
-        branch s t line bytes (is_taken s.names name) _ _ (λ q. refused s t line bytes code.E9 (moved_on s) q)
-        (branch s t line bytes (is_empty_list arguments) _ _ (declared (moved_on s) t terms line bytes moved says (sort_of s.names range) name) (λ q. refused s t line bytes code.E8 (moved_on s) q))
+        branch s t line bytes (is_taken s.names name) _ _ (λ q. refused s t line bytes code.E9 s q)
+        (branch s t line bytes (is_empty_list arguments) _ _ (declared s t terms line bytes session says (sort_of s.names range) name) (λ q. refused s t line bytes code.E8 s q))
         e
-    commanded (Assert term) e = asserted (moved_on s) t terms line bytes moved says term (core term (record { bank = s.bank; names = s.names })) refl e
+    commanded (Assert term) e = asserted s t terms line bytes session says term (core term (record { bank = s.bank; names = s.names })) refl e
     commanded CheckSat e =
         branch s t line bytes _ _ _ (λ q. refused s t line bytes (code.E16 most_checks) s q) (λ q. unchecked s t line bytes (stock s.bank (assertions_in_force s.names)) q) e
     commanded GetProof e = proved s t terms line bytes session says (proof s) e

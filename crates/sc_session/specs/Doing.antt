@@ -1,5 +1,5 @@
 -- What a call of a session does.
-use Rattle.std.specs.Prelude.{◌≡◌, ℕ, List, [], Option, Some, None, Result, Ok, Err}
+use Rattle.std.specs.Prelude.{◌≡◌, ℕ, Bool, false, List, [], Option, Some, None, Result, Ok, Err}
 use Rattle.sc_print.specs.Spelling.{spelt_error}
 use Rattle.sc_stack.specs.declared.stack.StackError.{StackError}
 use Rattle.sc_stack.specs.declared.stack.StackError.TheVariants as errors
@@ -20,6 +20,11 @@ abbrev pub IsTold : Result ℕ StackError → ℕ → Response → Type 0
 IsTold (Ok n) line r = r ≡ response.Text []
 IsTold (Err (errors.Fault code)) line r = r ≡ response.Error (spelt_error line code)
 IsTold (Err errors.Memory) line r = ⊥
+
+-- whether a check-sat is current where a declaration was tried: a refusal leaves this
+abbrev pub current_behind : Result ℕ StackError → Bool → Bool
+current_behind (Ok n) current = false
+current_behind (Err e) current = current
 
 abbrev pub text_of_proof : Option Derivation → List ℕ
 text_of_proof (Some d) = text_of d

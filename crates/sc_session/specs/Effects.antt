@@ -41,14 +41,14 @@ line_of text = text ++ 10 ∷ []
 abbrev pub quiet : State → Effect
 quiet s = Answers (said.Text []) s
 
--- the error with this code ends the script
+-- the error with this code ends the script, and leaves the session
 abbrev pub refuses : ℕ → Code → State → Effect
 refuses line code s = Answers (said.Error (spelt_error line code)) s
 
 -- the names after a declaration, unless there is a fault
 abbrev pub declares : Option Code → Names → State → ℕ → Effect
 declares (Some code) names s line = refuses line code s
-declares None names s line = quiet (with_names s names)
+declares None names s line = quiet (moved_on (with_names s names))
 
 -- a name that is kept by SMT-LIB 2.6 or the theories, or is in force
 abbrev pub is_taken : Names → List ℕ → Bool
@@ -72,10 +72,10 @@ abbrev pub is_empty_list : Shape → Bool
 is_empty_list (Listed line Empty) = true
 is_empty_list s = false
 
--- the term's core formula is asserted, where it has one
+-- the term's core formula is asserted, where it has one; a term that is refused leaves the nodes that it made before its fault
 abbrev pub assert_of : Outcome ℕ → State → ℕ → Effect
 assert_of (Fault code bank) s line = refuses line code (with_bank s bank)
-assert_of (Done n bank) s line = quiet (with_names (with_bank s bank) (with_assertion s.names n))
+assert_of (Done n bank) s line = quiet (moved_on (with_names (with_bank s bank) (with_assertion s.names n)))
 
 abbrev pub check_sat : State → ℕ → Effect
 check_sat s line =
@@ -103,10 +103,10 @@ asserts_term s term line = assert_of (core term (record { bank = s.bank; names =
 abbrev pub effect : State → CommandShape → ℕ → Effect
 effect s SetLogic line = quiet s
 effect s SetInfo line = quiet s
-effect s (DeclareSort name arity) line = declares_sort (moved_on s) name arity line
-effect s (DeclareConst name sort) line = declares_const (moved_on s) name sort line
-effect s (DeclareFun name arguments range) line = declares_fun (moved_on s) name arguments range line
-effect s (Assert term) line = asserts_term (moved_on s) term line
+effect s (DeclareSort name arity) line = declares_sort s name arity line
+effect s (DeclareConst name sort) line = declares_const s name sort line
+effect s (DeclareFun name arguments range) line = declares_fun s name arguments range line
+effect s (Assert term) line = asserts_term s term line
 effect s CheckSat line = check_sat s line
 effect s GetProof line = get_proof (proof s) s line
 effect s (Echo literal) line = Answers (said.Text (line_of literal)) s

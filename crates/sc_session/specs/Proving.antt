@@ -12,7 +12,7 @@ use Rattle.sc_session.specs.Said as said
 use Rattle.sc_session.specs.declared.tracing.Traced.{Traced}
 use Rattle.sc_session.specs.declared.tracing.Traced.TheVariants as traced
 use Rattle.sc_session.specs.Scripts.{Item}
-use Rattle.sc_session.specs.States.{State, state, start, with_verdict, proof}
+use Rattle.sc_session.specs.States.{State, state, start, with_verdict, proof, IsSession}
 use Rattle.sc_session.specs.Effects.{Answers, Checks, turn}
 use Rattle.sc_session.specs.Tracing.{step}
 
@@ -23,7 +23,10 @@ Proves s = (d : Derivation) → proof s ≡ Some d → Refutes (stock s.bank (as
 -- This holds of a session whose verdicts are just.
 pub record ProofsRefute : Type 0 where
   pub starts : Proves start
-  pub goes_on : (s t : State) (i : Item) (r : Said) → Proves s → turn s i ≡ Answers r t → Proves t
+  -- behind a command, unless it ends the script
+  pub goes_on : (s t : State) (i : Item) (bytes : List ℕ) → Proves s → turn s i ≡ Answers (said.Text bytes) t → Proves t
+  -- and whatever is answered: a refusal leaves the derivation current
+  pub answered : (s t : State) (i : Item) (r : Said) → IsSession s → Proves s → turn s i ≡ Answers r t → Proves t
   pub checked : (s : State) (budget : ℕ) (v : Verdict) → IsJust (stock s.bank (assertions_in_force s.names)) budget v → Proves (with_verdict s v)
 
 -- a session that differs in its verdicts

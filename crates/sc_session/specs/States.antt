@@ -31,7 +31,7 @@ with_bank s bank = state bank s.names s.verdicts s.checks s.current
 abbrev pub with_names : State → Names → State
 with_names s names = state s.bank names s.verdicts s.checks s.current
 
--- a declaration or an assertion comes, so no check-sat is current
+-- a declaration or an assertion was done, so no check-sat is current
 abbrev pub moved_on : State → State
 moved_on s = state s.bank s.names s.verdicts s.checks false
 

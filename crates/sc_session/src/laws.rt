@@ -1,11 +1,11 @@
 //! Laws of the definitions.
 
-ghost use Rattle.sc_session.specs.Laws.{AreRead, SayTheSame};
+ghost use Rattle.sc_session.specs.Laws.{AreRead, RefusalsLeave, SayTheSame};
 ghost use Rattle.sc_session.specs.Proving.{ProofsRefute, TracesGoAlong};
 ghost use Rattle.sc_session.specs.Tracing.{TracesKeep};
 
 use sc_elab::{elaboration_grows_bank, elaboration_keeps_meaning};
-use sc_flatten::meanings_agree;
+use sc_flatten::{meanings_agree, stocks_stay};
 use sc_sexpr::{splitters_give_items, splitters_read};
 
 /// Every text is exactly one script.
@@ -36,10 +36,22 @@ pub fn traces_keep_formulas()
 }
 
 /// Where the verdicts of a session are just, the derivation that `(get-proof)` answers refutes the
-/// problem of the assertions in force.
+/// problem of the assertions in force; so it does where a command was refused since.
 pub fn proofs_refute()
     ensures { ProofsRefute }
-{}
+{
+    elaboration_grows_bank();
+    stocks_stay();
+}
+
+/// A command that is refused leaves the session as it was: the names, the assertions, the verdicts
+/// and which of them is current. Only the terms that a refused term made before its fault stay, at
+/// the end of the bank.
+pub fn refusals_leave_sessions()
+    ensures { RefusalsLeave }
+{
+    elaboration_grows_bank();
+}
 
 /// Following a script without solving goes along with solving it: the two sessions differ only in
 /// their verdicts, and each item has the same error or none. A `(get-proof)` behind a current

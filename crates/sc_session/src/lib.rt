@@ -9,7 +9,8 @@
 //! script's own terms say, and that a just verdict is right for these terms, is
 //! [`sessions_say_the_same`]. Every text is exactly one script ([`scripts_are_read`]). The problems
 //! of check-sats are well sorted, and of pure sets ([`stocks_are_pure`]). What `(get-proof)` answers
-//! is a derivation that refutes the problem of the assertions in force ([`proofs_refute`]).
+//! is a derivation that refutes the problem of the assertions in force ([`proofs_refute`]). A
+//! command that is refused leaves the session as it was ([`refusals_leave_sessions`]).
 //!
 //! [`Session::trace_command`] and [`Session::trace_item`] follow a script without solving, as a
 //! checker of its proofs does. `step` of `specs/Tracing.antt` says what each item does there, and
@@ -24,7 +25,8 @@ mod tracing;
 mod verdicts;
 
 pub use laws::{
-    proofs_refute, scripts_are_read, sessions_say_the_same, traces_go_along, traces_keep_formulas,
+    proofs_refute, refusals_leave_sessions, scripts_are_read, sessions_say_the_same,
+    traces_go_along, traces_keep_formulas,
 };
 pub use pure::{stocks_are_of_banks, stocks_are_pure};
 pub use response::{Response, fault_line, verdict_line};

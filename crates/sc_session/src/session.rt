@@ -72,12 +72,21 @@ fn is_taken(stack: &Stack, name: &[u8]) -> bool
     !is_free_in_bars(name) || stack.look_up(name).is_some()
 }
 
-/// The response to a declaration that was tried.
-fn declared(alloc: Global, tried: Result<u32, StackError>, line: u64) -> Result<Response, Memory>
-    ensures { IfOk result (doing.IsTold tried line) }
+/// The response to a declaration that was tried. Where it was done no check-sat is current.
+fn declared(
+    alloc: Global,
+    current: &mut bool,
+    tried: Result<u32, StackError>,
+    line: u64,
+) -> Result<Response, Memory>
+    ensures told { IfOk result (doing.IsTold tried line) }
+    ensures moves { current.new ≡ doing.current_behind tried current.old }
 {
     match tried {
-        Ok(_) => Ok(quiet(alloc)),
+        Ok(_) => {
+            *current = false;
+            Ok(quiet(alloc))
+        }
         Err(StackError::Fault(code)) => refusal(alloc, line, code),
         Err(StackError::Memory) => Err(Memory),
     }
@@ -139,7 +148,7 @@ impl Session {
             return refusal(self.alloc, line, Code::E8);
         }
         let tried = self.stack.declare_sort(name);
-        declared(self.alloc, tried, line)
+        declared(self.alloc, &mut self.current, tried, line)
     }
 
     /// Declares a constant whose name is free.
@@ -151,7 +160,7 @@ impl Session {
         match read_sort(sort, &self.stack) {
             Ok(sort) => {
                 let tried = self.stack.declare(name, sort);
-                declared(self.alloc, tried, line)
+                declared(self.alloc, &mut self.current, tried, line)
             }
             Err(code) => refusal(self.alloc, line, code),
         }
@@ -192,6 +201,7 @@ impl Session {
     {
         tell(&self.bank, &self.stack);
         self.stack.assert(formula)?;
+        self.current = false;
         Ok(quiet(self.alloc))
     }
 
@@ -207,6 +217,7 @@ impl Session {
             Err(ElabError::Memory) => {
                 self.bank = Bank::new(self.alloc);
                 self.stack = Stack::new(self.alloc);
+                self.current = false;
                 Err(Memory)
             }
         }
@@ -237,7 +248,8 @@ impl Session {
     }
 
     /// The derivation of the verdict that is current, where this is unsat. A verdict is current
-    /// from its check-sat until the next one, or until something is declared or asserted.
+    /// from its check-sat until the next one, or until something is declared or asserted. What is
+    /// refused doesn't end it.
     pub fn proof(&self) -> Option<&Derivation>
         ensures { option_copied result ≡ proof self.now }
     {
@@ -267,26 +279,14 @@ impl Session {
     {
         match command {
             Command::SetLogic | Command::SetInfo => Ok(quiet(self.alloc)),
-            Command::DeclareSort { name, arity } => {
-                self.current = false;
-                self.declare_sort(name, arity, line)
-            }
-            Command::DeclareConst { name, sort } => {
-                self.current = false;
-                self.declare_const(name, sort, line)
-            }
+            Command::DeclareSort { name, arity } => self.declare_sort(name, arity, line),
+            Command::DeclareConst { name, sort } => self.declare_const(name, sort, line),
             Command::DeclareFun {
                 name,
                 arguments,
                 result,
-            } => {
-                self.current = false;
-                self.declare_fun(name, arguments, result, line)
-            }
-            Command::Assert { term } => {
-                self.current = false;
-                self.assert(term, line)
-            }
+            } => self.declare_fun(name, arguments, result, line),
+            Command::Assert { term } => self.assert(term, line),
             Command::Echo { literal } => line_of(self.alloc, literal),
             Command::Exit => Ok(Response::Exit(Sequence::new(self.alloc))),
             Command::CheckSat | Command::GetProof => unreachable!(),
@@ -299,7 +299,8 @@ impl Session {
     /// A declaration looks at its name first (E9), then at its arity or arguments (E8), and then at
     /// its sort (E6, E8). A term is as [`elaborate`] reads it, and each that it reads is asserted.
     /// A script has at most 10,000 check-sats (E16), and `(get-proof)` needs a current unsat (E14):
-    /// the text that it answers is that of [`Session::proof`].
+    /// the text that it answers is that of [`Session::proof`]. A command that is refused leaves the
+    /// session as it was, save for terms that it made before its fault.
     ///
     /// The only error is want of memory. After it the verdicts are those of the check-sats done
     /// before, what was declared and asserted may be forgotten, and no call but

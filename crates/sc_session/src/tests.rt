@@ -57,11 +57,15 @@ const COMMANDS: [(&str, &str); 28] = [
 
 /// The commands of one session that are followed without solving, and what is known of each: how an
 /// error begins, how many assertions a `(get-proof)` asks for, or nothing.
-const FOLLOWED: [(&str, &str); 14] = [
+const FOLLOWED: [(&str, &str); 18] = [
     ("(declare-const p Bool)", ""),
     ("(get-proof)", "(error \"line 1: E14"),
     ("(assert p)", ""),
     ("(check-sat)", ""),
+    ("(get-proof)", "one"),
+    ("(declare-const p Bool)", "(error \"line 1: E9"),
+    ("(get-proof)", "one"),
+    ("(assert (and (not p) r))", "(error \"line 1: E6"),
     ("(get-proof)", "one"),
     ("(assert (not p))", ""),
     ("\n(get-proof)", "(error \"line 2: E14"),
