@@ -13,3 +13,4 @@ mod Purely
 mod SortedBanks
 mod SortedNodes
 mod SortedTerms
+mod NamedFaults

@@ -7,3 +7,4 @@ pub mod Sorts
 pub mod Heads
 pub mod Elab
 pub mod Value
+pub mod Faults

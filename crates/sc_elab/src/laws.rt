@@ -1,6 +1,6 @@
 //! Laws of elaboration.
 
-ghost use Rattle.std.specs.Prelude.{◌≡◌, ℕ, List, Ok};
+ghost use Rattle.std.specs.Prelude.{◌≡◌, ℕ, List, Ok, Err, true};
 ghost use Rattle.sc_text.specs.declared.code.Code.{Code};
 ghost use Rattle.sc_sexpr.specs.Shapes.{Shape};
 ghost use Rattle.sc_terms.specs.declared.nodes.Node.{Node};
@@ -15,6 +15,7 @@ ghost use Rattle.sc_stack.specs.Names.{Names, IsSort, sorts_of, with_sort, with_
 ghost use Rattle.sc_elab.specs.States.{State, Done, Fault};
 ghost use Rattle.sc_elab.specs.Elab.{core};
 ghost use Rattle.sc_elab.specs.Sorts.{sort_of};
+ghost use Rattle.sc_elab.specs.Faults.{is_term_fault, is_sort_fault};
 ghost use Rattle.sc_elab.specs.Value.{Truth, truth, term_value};
 
 use sc_stack::names_have_numbers;
@@ -64,4 +65,10 @@ pub fn read_sorts_are_declared()
 pub fn declarations_keep_sorts()
     ensures sort { (names : Names) (name : List ℕ) (bank : List Node) → HasSorts (sorts_of names) bank → HasSorts (sorts_of (with_sort names name)) bank }
     ensures constant { (names : Names) (constant : Constant) (bank : List Node) → HasSorts (sorts_of names) bank → HasSorts (sorts_of (with_constant names constant)) bank }
+{}
+
+/// The faults of a term are that it is out of its shape (`E5`), that a name isn't in force (`E6`), a wrong sort or number of arguments (`E7`), that something is outside the profile (`E8`), and `E16` with one of two limits: 1,000 for the depth of a term and 200,000 for the distinct terms of a script. A sort has no other faults than `E5`, `E6` and `E8`.
+pub fn faults_are_named()
+    ensures term { (t : Shape) (s : State) (fault : Code) (bank : List Node) → core t s ≡ Fault fault bank → is_term_fault fault ≡ true }
+    ensures sort { (names : Names) (t : Shape) (fault : Code) → sort_of names t ≡ Err fault → is_sort_fault fault ≡ true }
 {}
