@@ -47,7 +47,10 @@ fn check_text<O: Sink>(alloc: Global, splitter: &mut Splitter, out: &mut O) -> E
 /// derivation belongs to the k-th `(get-proof)`, and is checked against the assertions of its
 /// check-sat. Its line is `derivation k: accepted`, `derivation k: refused at node
 /// n: CODE text`, or `derivation k: refused: no get-proof`. A fault of the text behind the script is
-/// written as an error line, and ends the check.
+/// written as an error line, and ends the check. `alloc` gives all memory.
+///
+/// The answer is how the check ended. Where the source failed nothing was written; where the sink
+/// failed, or memory was refused, what was written is a front of the lines, and nothing more is.
 pub fn check_input<S: Source, O: Sink>(alloc: Global, source: &mut S, out: &mut O) -> Ending
     ensures { CheckEnds (at_moment (S.moment source.old) (O.moment out.old)) (at_moment (S.moment source.new) (O.moment out.new)) result }
 {
