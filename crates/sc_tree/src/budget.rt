@@ -5,6 +5,6 @@
 pub enum Budget {
     /// So many steps on each branch, 1 to 2^40.
     Steps(u64),
-    /// As many steps as the assertions need.
+    /// The most steps that there are, 2^40 on each branch.
     Full,
 }
