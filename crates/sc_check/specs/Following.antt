@@ -45,7 +45,7 @@ pub record IsUnended (v : View) : Type 0 where
   pub at_end : (answer before).item ≡ item.End
 
 abbrev pub FollowGives : View → Result Followed Memory → View → State → Type 0
-FollowGives v (Ok (followed.Left asked)) w session = IsLeft v asked w session
+FollowGives v (Ok (followed.Exited asked)) w session = IsLeft v asked w session
 FollowGives v (Ok (followed.Stopped bytes)) w session = IsStopped v bytes
 FollowGives v (Ok followed.Unended) w session = IsUnended v
 FollowGives v (Err e) w session = ⊤

@@ -27,7 +27,7 @@ fn check_text<O: Sink>(alloc: Global, splitter: &mut Splitter, out: &mut O) -> E
 {
     let mut session = Session::new(alloc);
     match follow(alloc, splitter, &mut session) {
-        Ok(Followed::Left(asked)) => {
+        Ok(Followed::Exited(asked)) => {
             splitter.go_on(MOST_MORE as u64);
             judge_all(alloc, splitter, &session, &asked, out)
         }
@@ -42,7 +42,8 @@ fn check_text<O: Sink>(alloc: Global, splitter: &mut Splitter, out: &mut O) -> E
 ///
 /// The input is read to its end before the first command is done. A script may have 16,777,216
 /// bytes, and 2^60 may follow its `(exit)`. The commands of the script are done up to `(exit)`
-/// without solving; the first error ends the check with its line. Among the items behind it, a list
+/// without solving; the first error ends the check with its line. Where the script ends without
+/// `(exit)` there are no derivations, and nothing is written. Among the items behind `(exit)`, a list
 /// headed by the bare word `derivation` is a derivation, and all else is passed over. The k-th
 /// derivation belongs to the k-th `(get-proof)`, and is checked against the assertions of its
 /// check-sat. Its line is `derivation k: accepted`, `derivation k: refused at node

@@ -18,7 +18,7 @@ pub(crate) type Asked = Sequence<Numbers>;
 #[derive(Drop)]
 pub(crate) enum Followed {
     /// With `(exit)`.
-    Left(Asked),
+    Exited(Asked),
     /// With an error, whose line these bytes are.
     Stopped(Sequence<u8>),
     /// With the end of the input.
@@ -48,7 +48,7 @@ pub(crate) fn follow(
                     }
                 }
                 Ok(Traced::Error(bytes)) => return Ok(Followed::Stopped(bytes)),
-                Ok(Traced::Exit) => return Ok(Followed::Left(asked)),
+                Ok(Traced::Exit) => return Ok(Followed::Exited(asked)),
                 Err(Memory) => return Err(Memory),
             },
             Item::End => return Ok(Followed::Unended),

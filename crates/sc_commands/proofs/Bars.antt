@@ -1,6 +1,6 @@
 -- What stands between bars.
 use Rattle.std.proofs.Common.{◌≡◌, ℕ, suc, ◌-◌, List, [], ◌∷◌, ◌++◌, length, take, drop, Some, None, if◌then◌else◌, ap, ◌∙◌, arith, rules, length-append}
-use Rattle.sc_commands.specs.Forms.{between}
+use Rattle.sc_text.specs.Names.{between}
 use Rattle.sc_commands.specs.Laws.{AreNames}
 
 front : (name rest : List ℕ) → take (length name) (name ++ rest) ≡ name

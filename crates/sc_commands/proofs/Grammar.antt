@@ -4,7 +4,7 @@ use Rattle.std.specs.Str.{bytes_eq}
 use Rattle.std.specs.Prelude.{is_some, ok_or, option_map, option_and_then}
 use Rattle.sc_text.specs.declared.token.Kind.TheVariants as kind
 use Rattle.sc_text.specs.declared.code.Code.TheVariants as code
-use Rattle.sc_text.specs.Names.{is_reserved}
+use Rattle.sc_text.specs.Names.{is_reserved, between}
 use Rattle.sc_sexpr.specs.Shapes.{Shape, Single, Listed, Shapes, Empty, More}
 use Rattle.sc_commands.specs.Commands.{CommandShape, SetLogic, SetInfo, DeclareSort, DeclareConst, DeclareFun, Assert, CheckSat, GetProof, Echo, Exit}
 use Rattle.sc_commands.specs.Forms
@@ -17,10 +17,10 @@ bare_word : (r : Bool) (text name : List ℕ) → r ≡ is_reserved text → (if
 bare_word true text name e h = absurd cc
 bare_word false text name e h = (cc, sym e)
 
-inside : (text name inner : List ℕ) → Some (Forms.between text) ≡ Some name → text ≡ 124 ∷ inner ++ 124 ∷ [] → name ≡ inner
+inside : (text name inner : List ℕ) → Some (between text) ≡ Some name → text ≡ 124 ∷ inner ++ 124 ∷ [] → name ≡ inner
 inside text name inner h e =
-    let same : Forms.between text ≡ name = cc in
-    sym same ∙ ap Forms.between e ∙ between_bars inner
+    let same : between text ≡ name = cc in
+    sym same ∙ ap between e ∙ between_bars inner
 
 pub symbol_is : (s : Shape) (name : List ℕ) → Forms.symbol s ≡ Some name → IsSymbol name s
 symbol_is (Single kind.Word text start line) name h = bare_word (is_reserved text) text name refl h

@@ -1,22 +1,17 @@
 -- The forms of the commands of SMT-LIB 2.6 scripts, and the codes of what is none.
-use Rattle.std.specs.Prelude.{ℕ, ◌-◌, Bool, true, false, ◌&&◌, ◌||◌, if◌then◌else◌, List, codes, length, take, drop, Option, Some, None, is_some, ok_or, option_map, option_and_then, Result, Err}
+use Rattle.std.specs.Prelude.{ℕ, Bool, true, false, ◌&&◌, ◌||◌, if◌then◌else◌, List, codes, Option, Some, None, is_some, ok_or, option_map, option_and_then, Result, Err}
 use Rattle.std.specs.Str.{bytes_eq}
 use Rattle.sc_text.specs.declared.token.Kind.TheVariants as kind
 use Rattle.sc_text.specs.declared.code.Code.{Code}
 use Rattle.sc_text.specs.declared.code.Code.TheVariants as code
-use Rattle.sc_text.specs.Names.{is_command, is_left_out_command, is_reserved}
+use Rattle.sc_text.specs.Names.{is_command, is_left_out_command, symbol_name}
 use Rattle.sc_sexpr.specs.Shapes.{Shape, Single, Listed, Shapes, Empty, More}
 use Rattle.sc_commands.specs.Commands.{CommandShape, SetLogic, SetInfo, DeclareSort, DeclareConst, DeclareFun, Assert, CheckSat, GetProof, Echo, Exit}
 
--- what stands between the first byte and the last one
-abbrev pub between : List ℕ → List ℕ
-between text = drop 1 (take (length text - 1) text)
-
--- The name that a symbol gives. A reserved word is a symbol only between bars.
+-- the name that a symbol gives
 abbrev pub symbol : Shape → Option (List ℕ)
-symbol (Single kind.Word text start line) = if is_reserved text then None else Some text
-symbol (Single kind.Quoted text start line) = Some (between text)
-symbol s = None
+symbol (Single k text start line) = symbol_name k text
+symbol (Listed line rest) = None
 
 abbrev pub numeral : Shape → Option (List ℕ)
 numeral (Single kind.Numeral text start line) = Some text

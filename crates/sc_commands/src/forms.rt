@@ -10,33 +10,19 @@ ghost use Rattle.sc_commands.specs.Forms as forms;
 
 use crate::command::Command;
 use sc_sexpr::{Items, Tree};
-use sc_text::{Kind, is_reserved};
+use sc_text::Kind;
 use std::vec::IntoIter;
 
 /// The parts of a command behind its head.
 pub(crate) type Parts<'a> = IntoIter<Tree<'a>>;
 
-/// What stands between the first byte and the last one, as between the bars of a quoted symbol.
-fn between(text: &[u8]) -> &[u8]
-    ensures { result.now ≡ forms.between text.now }
-{
-    match text {
-        [_, inner @ .., _] => inner,
-        _ => &[],
-    }
-}
-
-/// The name that a symbol gives, without its bars. A reserved word is a symbol only between bars.
+/// The name that a symbol gives, without its bars.
 fn symbol<'a>(tree: &Tree<'a>) -> Option<&'a [u8]>
     ensures { option_copied result ≡ forms.symbol (shape tree.now) }
 {
-    let Tree::Leaf(token) = tree else {
-        return None;
-    };
-    match token.kind {
-        Kind::Word if !is_reserved(token.text) => Some(token.text),
-        Kind::Quoted => Some(between(token.text)),
-        _ => None,
+    match tree {
+        Tree::Leaf(token) => token.symbol_name(),
+        Tree::List(_) => None,
     }
 }
 

@@ -5,7 +5,7 @@ use Rattle.sc_text.specs.declared.code.Code.{Code}
 use Rattle.sc_text.specs.declared.code.Code.TheVariants as code
 use Rattle.sc_text.specs.declared.token.Kind.{Kind}
 use Rattle.sc_text.specs.declared.token.Kind.TheVariants as kind
-use Rattle.sc_text.specs.Names.{is_reserved}
+use Rattle.sc_text.specs.Names.{is_reserved, between}
 use Rattle.sc_sexpr.specs.Shapes.{Shape, Single, Listed, Shapes, Empty, More}
 use Rattle.sc_terms.specs.declared.nodes.Node.{Node}
 use Rattle.sc_terms.specs.declared.nodes.Node.TheVariants as nodes
@@ -30,7 +30,7 @@ use Rattle.sc_elab.specs.declared.words.Operator.{Operator}
 use Rattle.sc_elab.specs.declared.words.Operator.TheVariants as op
 use Rattle.sc_elab.specs.declared.words.Word.{Word}
 use Rattle.sc_elab.specs.declared.words.Word.TheVariants as word
-use Rattle.sc_elab.specs.Words.{word_of, between}
+use Rattle.sc_elab.specs.Words.{word_of}
 use Rattle.sc_elab.specs.Heads.{head_of}
 use Rattle.sc_elab.specs.States.{State, Outcome, Done, Fault, bind, each, put, put_formula, put_set}
 use Rattle.sc_elab.specs.Builds.{negation, disjunction, from_left, from_right, equal, difference, exclusive_or, equation, neighbours, pairs, conjoined, conjunction, chain, apart, choice, single, union, joined, inclusion, build}

@@ -5,7 +5,7 @@ use Rattle.sc_text.specs.declared.code.Code.{Code}
 use Rattle.sc_text.specs.declared.code.Code.TheVariants as code
 use Rattle.sc_text.specs.declared.token.Kind.{Kind}
 use Rattle.sc_text.specs.declared.token.Kind.TheVariants as kind
-use Rattle.sc_text.specs.Names.{is_among, is_reserved, is_left_out_operator}
+use Rattle.sc_text.specs.Names.{is_among, is_reserved, is_left_out_operator, between}
 use Rattle.sc_sexpr.specs.Shapes.{Shape, Single, Listed, Shapes, Empty, More}
 use Rattle.sc_terms.specs.declared.nodes.Sort.{Sort}
 use Rattle.sc_stack.specs.declared.stack.Named.{Named}
@@ -20,7 +20,7 @@ use Rattle.sc_elab.specs.declared.words.Word.{Word}
 use Rattle.sc_elab.specs.declared.words.Word.TheVariants as word
 use Rattle.sc_elab.specs.Counts.{count, is_end, is_one}
 use Rattle.sc_elab.specs.Sorts.{list_sort}
-use Rattle.sc_elab.specs.Words.{symbol_name, between, word_of, takes_count}
+use Rattle.sc_elab.specs.Words.{symbol_name, word_of, takes_count}
 
 -- ---- the forms of `let`, `!` and `as`, by what stands behind the word
 -- `(x t)` with a symbol x

@@ -20,7 +20,8 @@ use Rattle.sc_elab.specs.declared.words.Operator.{Operator}
 use Rattle.sc_elab.specs.declared.words.Operator.TheVariants as op
 use Rattle.sc_elab.specs.declared.words.Word.{Word}
 use Rattle.sc_elab.specs.declared.words.Word.TheVariants as word
-use Rattle.sc_elab.specs.Words.{word_of, between}
+use Rattle.sc_text.specs.Names.{between}
+use Rattle.sc_elab.specs.Words.{word_of}
 use Rattle.sc_elab.specs.Heads.{head_of}
 
 pub data Worth : Type 0 where

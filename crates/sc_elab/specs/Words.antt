@@ -1,25 +1,20 @@
 -- The words of terms.
 --
 -- Names are lists of bytes, without the bars of a quoted symbol.
-use Rattle.std.specs.Prelude.{ℕ, ◌-◌, Bool, ◌||◌, if◌then◌else◌, List, length, take, drop, nat_eq, nat_le, codes, Option, Some, None}
+use Rattle.std.specs.Prelude.{ℕ, Bool, ◌||◌, if◌then◌else◌, List, nat_eq, nat_le, codes, Option, Some, None}
 use Rattle.std.specs.Str.{bytes_eq}
-use Rattle.sc_text.specs.declared.token.Kind.TheVariants as kind
-use Rattle.sc_text.specs.Names.{is_reserved, is_operator, is_left_out_operator}
-use Rattle.sc_sexpr.specs.Shapes.{Shape, Single}
+use Rattle.sc_text.specs.Names.{is_operator, is_left_out_operator}
+use Rattle.sc_text.specs.Names as tokens
+use Rattle.sc_sexpr.specs.Shapes.{Shape, Single, Listed}
 use Rattle.sc_elab.specs.declared.words.Operator.{Operator}
 use Rattle.sc_elab.specs.declared.words.Operator.TheVariants as op
 use Rattle.sc_elab.specs.declared.words.Word.{Word}
 use Rattle.sc_elab.specs.declared.words.Word.TheVariants as word
 
--- what stands between the first byte and the last one
-abbrev pub between : List ℕ → List ℕ
-between text = drop 1 (take (length text - 1) text)
-
--- The name that a symbol gives. A reserved word is a symbol only between bars.
+-- the name that a symbol gives
 abbrev pub symbol_name : Shape → Option (List ℕ)
-symbol_name (Single kind.Word text start line) = if is_reserved text then None else Some text
-symbol_name (Single kind.Quoted text start line) = Some (between text)
-symbol_name s = None
+symbol_name (Single k text start line) = tokens.symbol_name k text
+symbol_name (Listed line rest) = None
 
 -- the operators that are done
 abbrev pub operator_named : List ℕ → Option Operator

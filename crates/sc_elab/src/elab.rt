@@ -20,11 +20,11 @@ use crate::error::ElabError;
 use crate::heads::{Head, head_of};
 use crate::meant::Meant;
 use crate::set_terms::put_set_term;
-use crate::words::{Word, between, word_of};
+use crate::words::{Word, word_of};
 use sc_sexpr::{Items, Tree};
 use sc_stack::{Named, Stack};
 use sc_terms::{Bank, Element, Formula, Sequence, SetTerm, Sort};
-use sc_text::{Code, Kind, Token, is_reserved};
+use sc_text::{Code, Kind, Token, between, is_reserved};
 use std::alloc::Global;
 
 /// Puts a Bool constant into the bank.

@@ -9,11 +9,11 @@ ghost use Rattle.sc_elab.specs.Counts as counts;
 ghost use Rattle.sc_elab.specs.Heads as spec;
 
 use crate::sorts::list_sort;
-use crate::words::{Operator, Word, between, is_word, symbol_name, takes_count, word_of};
+use crate::words::{Operator, Word, is_word, symbol_name, takes_count, word_of};
 use sc_sexpr::Tree;
 use sc_stack::{Named, Stack};
 use sc_terms::Sort;
-use sc_text::{Code, Kind, Token, is_left_out_operator, is_reserved};
+use sc_text::{Code, Kind, Token, between, is_left_out_operator, is_reserved};
 
 /// What is awaited next among the attributes of an annotation.
 #[derive(Clone, Copy)]

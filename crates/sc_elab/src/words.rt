@@ -6,7 +6,7 @@ ghost use Rattle.sc_sexpr.specs.Shapes.{shape};
 ghost use Rattle.sc_elab.specs.Words as spec;
 
 use sc_sexpr::Tree;
-use sc_text::{Kind, is_left_out_operator, is_operator, is_reserved};
+use sc_text::{is_left_out_operator, is_operator};
 
 /// The operators that are done.
 #[derive(Clone, Copy)]
@@ -66,27 +66,13 @@ pub fn is_word(name: &[u8], word: &str) -> bool
     word.as_bytes() == name
 }
 
-/// What stands between the first byte and the last one, as between the bars of a quoted symbol.
-pub fn between(text: &[u8]) -> &[u8]
-    ensures { result.now ≡ spec.between text.now }
-{
-    match text {
-        [_, inner @ .., _] => inner,
-        _ => &[],
-    }
-}
-
-/// The name that a symbol gives, without its bars. A reserved word is a symbol only between bars.
+/// The name that a symbol gives, without its bars.
 pub fn symbol_name<'a>(tree: &Tree<'a>) -> Option<&'a [u8]>
     ensures { option_copied result ≡ spec.symbol_name (shape tree.now) }
 {
-    let Tree::Leaf(token) = tree else {
-        return None;
-    };
-    match token.kind {
-        Kind::Word if !is_reserved(token.text) => Some(token.text),
-        Kind::Quoted => Some(between(token.text)),
-        _ => None,
+    match tree {
+        Tree::Leaf(token) => token.symbol_name(),
+        Tree::List(_) => None,
     }
 }
 

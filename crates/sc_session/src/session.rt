@@ -297,10 +297,11 @@ impl Session {
     /// branch of a check-sat, 1 to 2^40, which the decider answers.
     ///
     /// A declaration looks at its name first (E9), then at its arity or arguments (E8), and then at
-    /// its sort (E6, E8). A term is as [`elaborate`] reads it, and each that it reads is asserted.
-    /// A script has at most 10,000 check-sats (E16), and `(get-proof)` needs a current unsat (E14):
-    /// the text that it answers is that of [`Session::proof`]. A command that is refused leaves the
-    /// session as it was, save for terms that it made before its fault.
+    /// its sort (E6, E8). A term is read by [`elaborate`]: where that gives a formula, it is
+    /// asserted, else its fault is the response. A script has at most 10,000 check-sats (E16), and
+    /// `(get-proof)` needs a current unsat (E14): the text that it answers is that of
+    /// [`Session::proof`]. A command that is refused leaves the session as it was, save for terms
+    /// that it made before its fault.
     ///
     /// The only error is want of memory. After it the verdicts are those of the check-sats done
     /// before, what was declared and asserted may be forgotten, and no call but

@@ -1,8 +1,8 @@
 //! The top items of a script text of SMT-LIB 2.6, and their trees.
 //!
 //! A [`Splitter`] takes an input in pieces, however it is cut, and gives its top items one after
-//! the other: a token outside of every list, or a list with its parentheses. It looks at each byte
-//! once, and keeps no more than the item at hand and the last piece. At most 1,000 parentheses may
+//! the other: a token outside of every list, or a list with its parentheses. The time is linear in
+//! the bytes, and what is kept of them is told by [`Splitter::held`]. At most 1,000 parentheses may
 //! be open, and the number of bytes has a limit. [`read_tree`] gives the tree of an item.
 //!
 //! `items_of` of `specs/Scans.antt` says which items an input has and how it ends. A splitter gives

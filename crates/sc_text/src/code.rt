@@ -4,7 +4,8 @@
 ///
 /// An error is printed as `(error "line L: Ek text")` and ends the script. The codes and the
 /// texts are this program's own; SMT-LIB 2.6 leaves the text of an error free. No error has the
-/// code E15.
+/// code E15. E10 to E13 are of integers, levels and models, of which no command that is done gives
+/// any yet.
 #[derive(Clone, Copy, PartialEq, Eq)]
 pub enum Code {
     /// `lexical fault`: a byte begins no token, or the token begun can't be finished.

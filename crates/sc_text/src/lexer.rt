@@ -72,7 +72,8 @@ impl<'a> Lexer<'a> {
     /// The next token, by the lexical rules of SMT-LIB 2.6; or how the text ends behind the
     /// tokens that were given. After an answer that is no token the answer stays the same.
     ///
-    /// No memory is taken. Up to the first answer that is no token each byte is stepped once.
+    /// No memory is taken. Up to the first answer that is no token, all calls together take time
+    /// that is linear in the text.
     pub fn next(&mut self) -> Next<'a>
         ensures answers { Answers self.old result self.new }
         ensures first { GivesFirst self.old result self.new }

@@ -32,7 +32,7 @@ pub use names::{
     is_built_in, is_command, is_free, is_free_in_bars, is_left_out_command, is_left_out_operator,
     is_operator, is_own, is_reserved,
 };
-pub use token::{Kind, Token};
+pub use token::{Kind, Token, between};
 
 #[cfg(test)]
 mod tests;

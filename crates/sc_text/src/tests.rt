@@ -42,7 +42,7 @@ fn kinds(alloc: Global, text: &[u8], last: bool) -> Result<String, Fail> {
 
 #[test]
 fn texts(rt: HostRuntime) -> Result<(), Fail> {
-    let cases: [(&[u8], bool, &str); 20] = [
+    let cases: [(&[u8], bool, &str); 25] = [
         (
             b"(a |b c| \"d\"\"e\" 12 0 2.60 #x0F #b01 :k)",
             true,
@@ -54,10 +54,15 @@ fn texts(rt: HostRuntime) -> Result<(), Fail> {
         (b"2.6.1", true, "!"),
         (b"2.", true, "!"),
         (b"#x )", true, "!"),
+        (b"#x", true, "!"),
+        (b"#b2", true, "!"),
+        (b"#", true, "!"),
+        (b"# a", true, "!"),
         (b"#x0G", true, "!"),
         (b"#b012", true, "!"),
         (b": a", true, "!"),
         (b"|a\\b|", true, "!"),
+        (b"|a\\|", true, "!"),
         (b"\"a\nb", true, "!"),
         (b"a{", true, "W!"),
         (b"(a", false, "L?"),

@@ -39,8 +39,8 @@ pub struct Token<'a> {
     pub line: u64,
 }
 
-/// What stands between the first byte and the last one.
-fn between(text: &[u8]) -> &[u8]
+/// What stands between the first byte and the last one, as between the bars of a quoted symbol.
+pub fn between(text: &[u8]) -> &[u8]
     ensures { result.now ≡ names.between text.now }
 {
     match text {

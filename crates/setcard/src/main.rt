@@ -29,6 +29,8 @@ use std::{env, io};
 #[cfg(test)]
 mod check_tests;
 #[cfg(test)]
+mod reading_tests;
+#[cfg(test)]
 mod set_tests;
 #[cfg(test)]
 mod tests;

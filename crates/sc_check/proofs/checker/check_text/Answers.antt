@@ -1,10 +1,10 @@
 use Rattle.sc_check.proofs.Checking.{judged_text, stopped_text, unended_text, wanting}
 use Rattle.sc_check.proofs.checker.check_text.Goals as goal
 
-pub returns-in-Ok-Left : goal.returns-in-Ok-Left
-returns-in-Ok-Left g c =
-    judged_text c.args.splitter.now c.follow.new.splitter c.go_on.new.self c.in-Ok-Left.asked c.follow.new.session (g.O.Sink.moment c.args.out.now) (g.O.Sink.moment c.judge_all.new.out)
-    (rw c.in-Ok-Left.field-0-is at c.in-Ok-Left.ensures) c.go_on.ensures c.judge_all.result c.judge_all.ensures
+pub returns-in-Ok-Exited : goal.returns-in-Ok-Exited
+returns-in-Ok-Exited g c =
+    judged_text c.args.splitter.now c.follow.new.splitter c.go_on.new.self c.in-Ok-Exited.asked c.follow.new.session (g.O.Sink.moment c.args.out.now) (g.O.Sink.moment c.judge_all.new.out)
+    (rw c.in-Ok-Exited.field-0-is at c.in-Ok-Exited.ensures) c.go_on.ensures c.judge_all.result c.judge_all.ensures
 
 pub returns-in-Ok-Stopped : goal.returns-in-Ok-Stopped
 returns-in-Ok-Stopped g c =
