@@ -79,14 +79,32 @@ fn cut_on_argument(problem: &Problem, path: &Path, said: &Said) -> Option<PlainS
     None
 }
 
+/// Whether the path says which of two sets has their differing element.
+fn is_told_apart(path: &Path, tables: &Tables, s: u32, t: u32) -> bool {
+    let Some(element) = tables.terms.difference(s, t) else {
+        return false;
+    };
+    match (
+        membership_of(path, element, s),
+        membership_of(path, element, t),
+    ) {
+        (Some(inside), Some(other)) => inside != other,
+        _ => false,
+    }
+}
+
 /// A split on which of two different sets has their differing element.
 fn split_on_difference(
     growing: &Growing,
-    said: &Said,
+    tables: &Tables,
     alloc: Global,
     problem: &Problem,
 ) -> Result<Option<PlainStep>, Memory> {
-    for (s, t) in said.unequal_sets.as_slice() {
+    for (s, t) in tables.said.unequal_sets.as_slice() {
+        // Trying the step looks at all elements; this look-up is quick.
+        if is_told_apart(growing.path(), tables, *s, *t) {
+            continue;
+        }
         let step = PlainStep::Differ(*s, *t);
         if growing.can_split(alloc, problem, &step)? {
             return Ok(Some(step));
@@ -105,7 +123,7 @@ pub(crate) fn needed_split(
     if let Some(step) = cut_on_formula(problem, growing.path()) {
         return Ok(Some(step));
     }
-    split_on_difference(growing, &tables.said, alloc, problem)
+    split_on_difference(growing, tables, alloc, problem)
 }
 
 /// Whether the walk comes to a term for the first time; then it is marked with the element.
