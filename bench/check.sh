@@ -1,6 +1,6 @@
 #!/usr/bin/env bash
-# Times how fast derivations are checked: one long branch, and many cuts inside one another, each at three sizes, so that
-# growth shows. There is no other program that reads these derivations, so there is nothing to compare with.
+# Times how fast derivations are checked: one long branch, and many cuts inside one another, each at three sizes, so
+# that growth shows. No other program reads these derivations, so there is nothing to compare with.
 #
 # bench/check.sh [PROGRAM]: the program is crates/setcard/out/setcard, unless another is named.
 set -euo pipefail
@@ -37,20 +37,17 @@ cuts() {
 
 # NAME NODES INPUT: times the check of one derivation, which is to be accepted
 check_row() {
-  local name=$1 nodes=$2 input=$3 line
-  measure "$input" "$setcard" check
-  line=$(tail -n 1 "$work/out" | cut -c 1-60)
-  if (( status == 0 )) && [[ $line == 'derivation 1: accepted' ]]; then
-    printf '%-46s %9s %12s %8s   %s\n' "$name" "$(milliseconds "$us")" "$(quotient "$nodes" "$us" 3)" \
-      "$(quotient "$(stat -c %s "$input")" "$us" 1)" "$line"
-  else
-    if (( status != 6 )); then line=$outcome; fi
-    printf '%-46s %9s %12s %8s   FAILED: %s\n' "$name" - - - "$line"
-    failures=$(( failures + 1 ))
+  local name=$1 nodes=$2 input=$3 time=- by_nodes=- by_bytes=-
+  measure_line "$input" "$setcard" check
+  if judge 'derivation 1: accepted'; then
+    time=$(milliseconds "$us")
+    by_nodes=$(quotient $(( nodes * 1000000 )) "$us" 0)
+    by_bytes=$(quotient "$(stat -c %s "$input")" "$us" 1)
   fi
+  printf '%-46s %9s %12s %8s   %s\n' "$name" "$time" "$by_nodes" "$by_bytes" "$outcome"
 }
 
-printf '%-46s %9s %12s %8s   %s\n' 'derivation (least of the runs)' ms nodes/us MB/s outcome
+printf '%-46s %9s %12s %8s   %s\n' "derivation (least of $runs runs)" ms nodes/s MB/s outcome
 for n in 50000 100000 200000; do
   steps $n > "$work/steps"
   check_row "$n steps on one branch" $(( n + 1 )) "$work/steps"

@@ -12,11 +12,13 @@ top=$(cd "$(dirname "${BASH_SOURCE[0]}")/.." && pwd)
 runs=${BENCH_RUNS:-5}
 seconds=${BENCH_SECONDS:-60}
 failures=0
+running=''
 work=$(mktemp -d)
 
-# removes the folder, and gives the script its exit status
+# ends what still runs, removes the folder, and gives the script its exit status
 at_end() {
   local status=$?
+  if [[ -n $running ]]; then kill "$running" 2> /dev/null || true; fi
   rm -rf -- "$work"
   if (( status == 0 && failures > 0 )); then
     printf '%s: failures: %d\n' "${0##*/}" "$failures" >&2
@@ -31,7 +33,7 @@ program_of() {
   local name=${2:-$top/crates/$1/out/$1} path=''
   if [[ -f $name && -x $name ]]; then path=$name; else path=$(type -P -- "$name" || true); fi
   if [[ -z $path ]]; then
-    printf "%s: no program at %s: build it first, by 'rt run' in crates/%s, or name another\n" "${0##*/}" "$name" "$1" >&2
+    printf "%s: no program at %s: build it by 'rt run' in crates/%s, or name another\n" "${0##*/}" "$name" "$1" >&2
     return 2
   fi
   realpath --no-symlinks -- "$path"
@@ -55,9 +57,9 @@ declared() {
   for (( i = 1; i <= $2; i++ )); do echo "(declare-const A$i (Set U))"; done
 }
 
-# INPUT COMMAND ..: runs the command on the input, several times. Afterwards us is the least time in microseconds, and of
-# the last run status is the exit status, $work/out what was printed, answers the answers to check-sats, and outcome what
-# came of it in words. Once a run failed, or the runs took 10 s together, there are no more of them.
+# INPUT COMMAND ..: runs the command on the input, several times. Afterwards us is the least time in microseconds, and
+# of the last run status is the exit status, $work/out what was printed, answers the answers to check-sats, and outcome
+# what came of it in words. Once a run failed, or the runs took 10 s together, there are no more of them.
 measure() {
   local input=$1 run begin took total=0 is_late=false
   shift
@@ -65,8 +67,11 @@ measure() {
   for (( run = 0; run < runs && total < 10000000; run++ )); do
     status=0
     begin=${EPOCHREALTIME//[!0-9]/}
-    { timeout --foreground --kill-after=5 "$seconds" "$@" < "$input" > "$work/out" || status=$?; } 2> /dev/null
+    timeout --kill-after=5 "$seconds" "$@" < "$input" > "$work/out" 2> /dev/null &
+    running=$!
+    { wait "$running" || status=$?; } 2> /dev/null
     took=$(( ${EPOCHREALTIME//[!0-9]/} - begin ))
+    running=''
     total=$(( total + took ))
     if (( us == 0 || took < us )); then us=$took; fi
     if (( status != 0 )); then
@@ -74,17 +79,36 @@ measure() {
       break
     fi
   done
+  describe $is_late
+}
+
+# IS_LATE: sets answers and outcome for the last run
+describe() {
   answers=$({ grep -xE 'sat|unsat|unknown' "$work/out" || true; } | head -c 1000 | tr '\n' ' ')
   answers=${answers% }
-  if $is_late; then
+  if $1; then
     outcome="no end after $seconds s"
   elif (( status == 0 )); then
     outcome=${answers:-done}
+  elif (( status > 128 )); then
+    outcome="signal $(( status - 128 ))"
   else
     outcome=$({ grep -am 1 '^(error' "$work/out" || true; } | cut -c 1-60)
-    if [[ -z $outcome ]] && (( status > 128 )); then outcome="signal $(( status - 128 ))"; fi
-    outcome=${outcome:-status $status}
+    outcome=${outcome:-status $status, $(last_line)}
   fi
+}
+
+# the last line that was printed, or as much of it as a row shows
+last_line() {
+  local line
+  line=$(tail -n 1 "$work/out" | cut -c 1-60)
+  printf '%s' "${line:-nothing printed}"
+}
+
+# INPUT COMMAND ..: as measure, for a command that prints one line; where it ends with status 0, the line is the outcome
+measure_line() {
+  measure "$@"
+  if (( status == 0 )); then outcome=$(last_line); fi
 }
 
 # ANSWERS ANSWERS: whether one check-sat has sat in the one and unsat in the other
@@ -126,7 +150,8 @@ begin_scripts() {
   has_speed=false
   if [[ ${2:-} == speed ]]; then has_speed=true; fi
   cvc5=$(type -P cvc5 || true)
-  printf 'setcard: %s, repository at %s\n' "$program" "$(git -C "$top" describe --always --dirty 2> /dev/null || echo 'no commit')"
+  printf 'setcard: %s, repository at %s\n' "$program" \
+    "$(git -C "$top" describe --always --dirty 2> /dev/null || echo 'no commit')"
   echo '(set-logic ALL)' > "$work/start"
   measure "$work/start" "$program" solve
   printf 'least of %d runs; %s ms of each time are the start of setcard' "$runs" "$(milliseconds "$us")"

@@ -35,7 +35,9 @@ conjunction() {
 # COUNT memberships of 1,000 elements in 100 sets, no two the same
 memberships() {
   declared 1000 100
-  awk -v n="$1" 'BEGIN { for (k = 0; k < n; k++) print "(assert (set.member e" k % 1000 + 1 " A" int(k / 1000) + 1 "))" }'
+  awk -v n="$1" 'BEGIN {
+    for (k = 0; k < n; k++) print "(assert (set.member e" k % 1000 + 1 " A" int(k / 1000) + 1 "))"
+  }'
 }
 
 # one union of COUNT sets, of which 1,000 differ

@@ -2,10 +2,11 @@
 # Times how fast 16 MiB of text are read: white space, comments, long and deep lists, long symbols, single tokens of
 # that length, and many short commands.
 #
-# First splitting (into top items) and lexing (into tokens) alone, by the program crates/bench_reading: the time in which
-# it only reads its input is taken off. What it counts is compared with what is expected, so no speed is shown where a
-# fault ended the work early. Then setcard on scripts of echoes, of commands with lists and symbols, and of comments;
-# where cvc5 is installed, the same scripts are given to it.
+# First splitting (into top items) and lexing (into tokens) alone, by the program crates/bench_reading. The time in
+# which it only reads its input is taken off; where nothing is left, 'too short' stands for the speed. What it counts is
+# compared with what is expected, so no speed is shown where a fault ended the work early. Then setcard on scripts of
+# comments, of commands with lists and symbols, and of echoes; where cvc5 is installed, it reads the same scripts. The
+# texts take some 250 MB of TMPDIR.
 #
 # bench/reading.sh [PROGRAM [READER]]: the programs are crates/setcard/out/setcard and
 # crates/bench_reading/out/bench_reading, unless others are named.
@@ -16,8 +17,8 @@ setcard=$(program_of setcard "${1:-}")
 reader=$(program_of bench_reading "${2:-}")
 size=16777216
 
-# NAME FRONT UNIT END: makes a text of 16 MiB: a front, the unit again and again, each time with a line feed, an end, and
-# white space for what is left. Afterwards count tells how often the unit stands there.
+# NAME FRONT UNIT END: makes a text of 16 MiB: a front, the unit again and again, each time with a line feed, an end,
+# and white space for what is left. Afterwards count tells how often the unit stands there.
 fill() {
   local name=$1 front=$2 unit=$3 end=$4 feeds room
   room=$(( size - ${#front} - ${#end} ))
@@ -41,44 +42,29 @@ stretch() {
   } > "$work/$name"
 }
 
-# CHARACTER COUNT: prints the character so many times, without a file
-characters() { local blanks; printf -v blanks '%*s' "$2" ''; printf '%s' "${blanks// /$1}"; }
-
-# INPUT WORK: how long the work takes, in microseconds, left in us; and the count that it prints, or what came of it, left
-# in counted
-count_by() {
-  measure "$work/$1" "$reader" "$2"
-  counted=$outcome
-  if (( status == 0 )); then counted=$(head -n 1 "$work/out" | cut -c 1-40); fi
-}
-
 # NAME INPUT ITEMS TOKENS: the speed of splitting and of lexing a text of so many top items and tokens
 alone_row() {
-  local name=$1 input=$2 read work_name expected note='' speeds=()
-  count_by "$input" read
-  read=$us
-  if [[ $counted != "$size" ]]; then note="; FAILED: read: $counted"; fi
-  for work_name in split lex; do
-    expected=$3
-    if [[ $work_name == lex ]]; then expected=$4; fi
-    count_by "$input" $work_name
-    if [[ $counted != "$expected" ]]; then
-      note="$note; FAILED: $work_name: $counted"
-      speeds+=(-)
-    elif (( us > read )); then
-      speeds+=("$(quotient $size $(( us - read )) 1)")
-    else
-      speeds+=('too short')
-    fi
-  done
-  if [[ -n $note ]]; then failures=$(( failures + 1 )); fi
-  printf '%-46s %9s %11s %11s   %s\n' "$name" "$(milliseconds "$read")" "${speeds[0]}" "${speeds[1]}" "$3 items, $4 tokens$note"
+  local name=$1 input=$work/$2 items=$3 tokens=$4 reading split=- lex=- note=''
+  measure_line "$input" "$reader" read
+  reading=$us
+  judge $size || note="; read: $outcome"
+  measure_line "$input" "$reader" split
+  if judge "$items"; then split=$(speed_but "$reading"); else note="$note; split: $outcome"; fi
+  measure_line "$input" "$reader" lex
+  if judge "$tokens"; then lex=$(speed_but "$reading"); else note="$note; lex: $outcome"; fi
+  printf '%-46s %9s %11s %11s   %s\n' "$name" "$(milliseconds "$reading")" "$split" "$lex" \
+    "$items items, $tokens tokens$note"
 }
 
-deep=$(characters '(' 998)$(characters ')' 998)
-list=$(characters 'a bb 17 ' 1000)
+# READING: the megabytes a second of the last run, without the microseconds of reading
+speed_but() {
+  if (( us > $1 )); then quotient $size $(( us - $1 )) 1; else printf 'too short'; fi
+}
 
-printf '%-46s %9s %11s %11s   %s\n' '16 MiB of text (least of the runs)' 'read ms' 'split MB/s' 'lex MB/s' counted
+deep=$(repeat '(' 998)a$(repeat ')' 998)
+list=$(head -n 1000 < <(yes 'a bb 17') | tr '\n' ' ')
+
+printf '%-46s %9s %11s %11s   %s\n' "16 MiB of text (least of $runs runs)" 'read ms' 'split MB/s' 'lex MB/s' counted
 repeat ' ' $size > "$work/blanks"
 alone_row 'white space' blanks 0 0
 fill comments '' '; a comment of some words that is passed over by the reader' ''
@@ -89,16 +75,16 @@ fill commented '' $'; what is asked here\n; and why, in some words more\n(set-in
 alone_row 'commands with comments' commented "$count" $(( 5 * count ))
 stretch literal '"' '"'
 alone_row 'one string literal' literal 1 1
-fill symbols '(set-info :notes (' "$(characters a 4000)" '))'
+fill symbols '(set-info :notes (' "$(repeat a 4000)" '))'
 alone_row 'symbols of 4,000 bytes' symbols 1 $(( count + 6 ))
 fill lists '' "(set-info :notes ($list))" ''
 alone_row 'lists of 3,000 tokens' lists "$count" $(( 3006 * count ))
 fill list '(set-info :notes (' 'a bb 17' '))'
 alone_row 'one list of short tokens' list 1 $(( 3 * count + 6 ))
-fill inside "(set-info :notes $(characters '(' 998)" 'a bb 17' "$(characters ')' 998))"
+fill inside "(set-info :notes $(repeat '(' 998)" 'a bb 17' "$(repeat ')' 998))"
 alone_row 'one list, 998 deep' inside 1 $(( 3 * count + 2000 ))
 fill deep '(set-info :notes (' "$deep" '))'
-alone_row 'lists that are 998 deep' deep 1 $(( 1996 * count + 6 ))
+alone_row 'lists that are 998 deep' deep 1 $(( 1997 * count + 6 ))
 fill commands '' '(set-info :status unknown)' ''
 alone_row 'short commands' commands "$count" $(( 5 * count ))
 fill echoes '' '(echo "hello world")' ''
