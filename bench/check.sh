@@ -47,7 +47,7 @@ check_row() {
   printf '%-46s %9s %12s %8s   %s\n' "$name" "$time" "$by_nodes" "$by_bytes" "$outcome"
 }
 
-printf '%-46s %9s %12s %8s   %s\n' "derivation (least of $runs runs)" ms nodes/s MB/s outcome
+printf '%-46s %9s %12s %8s   %s\n' "derivation (least of up to $runs runs)" ms nodes/s MB/s outcome
 for n in 50000 100000 200000; do
   steps $n > "$work/steps"
   check_row "$n steps on one branch" $(( n + 1 )) "$work/steps"

@@ -8,9 +8,16 @@
 # refused its input, crashed or printed another thing than it should; and with 2 where it could not begin. A run that
 # isn't ended in time and the answer 'unknown' are shown in the row and are no failures.
 
+export LC_ALL=C
 top=$(cd "$(dirname "${BASH_SOURCE[0]}")/.." && pwd)
 runs=${BENCH_RUNS:-5}
 seconds=${BENCH_SECONDS:-60}
+for number in "$runs" "$seconds"; do
+  if [[ ! $number =~ ^[1-9][0-9]{0,5}$ ]]; then
+    printf '%s: BENCH_RUNS and BENCH_SECONDS are numbers from 1 to 999999\n' "${0##*/}" >&2
+    exit 2
+  fi
+done
 failures=0
 running=''
 work=$(mktemp -d)
@@ -40,7 +47,7 @@ program_of() {
 }
 
 # A B DIGITS: a quotient
-quotient() { awk -v a="$1" -v b="$2" -v digits="$3" 'BEGIN { printf "%.*f", digits, a / b }'; }
+quotient() { awk -v a="$1" -v b="$2" -v form="%.$3f" 'BEGIN { printf form, a / b }'; }
 
 # MICROSECONDS: the same in milliseconds
 milliseconds() { quotient "$1" 1000 2; }
@@ -93,7 +100,8 @@ describe() {
   elif (( status > 128 )); then
     outcome="signal $(( status - 128 ))"
   else
-    outcome=$({ grep -am 1 '^(error' "$work/out" || true; } | cut -c 1-60)
+    outcome=''
+    if (( status == 1 )); then outcome=$({ grep -am 1 '^(error' "$work/out" || true; } | cut -c 1-60); fi
     outcome=${outcome:-status $status, $(last_line)}
   fi
 }
@@ -154,7 +162,7 @@ begin_scripts() {
     "$(git -C "$top" describe --always --dirty 2> /dev/null || echo 'no commit')"
   echo '(set-logic ALL)' > "$work/start"
   measure "$work/start" "$program" solve
-  printf 'least of %d runs; %s ms of each time are the start of setcard' "$runs" "$(milliseconds "$us")"
+  printf 'least of up to %d runs; %s ms of each time are the start of setcard' "$runs" "$(milliseconds "$us")"
   judge 'done' || printf ' (%s)' "$outcome"
   if [[ -n $cvc5 ]]; then
     measure_cvc5 "$work/start"

@@ -64,7 +64,7 @@ speed_but() {
 deep=$(repeat '(' 998)a$(repeat ')' 998)
 list=$(head -n 1000 < <(yes 'a bb 17') | tr '\n' ' ')
 
-printf '%-46s %9s %11s %11s   %s\n' "16 MiB of text (least of $runs runs)" 'read ms' 'split MB/s' 'lex MB/s' counted
+printf '%-46s %9s %11s %11s   %s\n' "16 MiB of text (least of up to $runs runs)" 'read ms' 'split MB/s' 'lex MB/s' counted
 repeat ' ' $size > "$work/blanks"
 alone_row 'white space' blanks 0 0
 fill comments '' '; a comment of some words that is passed over by the reader' ''

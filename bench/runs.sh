@@ -21,7 +21,7 @@ work_row() {
   printf '%-46s %9s %17s   %s\n' "$name" "$time" "$rest" "$outcome"
 }
 
-printf '%-46s %9s %17s   %s\n' "work (least of $runs runs)" ms 'ms less building' outcome
+printf '%-46s %9s %17s   %s\n' "work (least of up to $runs runs)" ms 'ms less building' outcome
 for n in 1000 10000 100000; do
   work_row "build two sets of $n runs" build $n "$(( n * 600000 )) $(( n * 600000 ))"
   building=$us
