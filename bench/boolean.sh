@@ -94,4 +94,4 @@ for n in 4 5; do
   row "$n pigeons into $(( n - 1 )) holes" "$work/pigeons" unsat
 done
 memberships 1000 > "$work/memberships"
-row 'a chain of 1,000 memberships, its end denied' "$work/memberships" unsat
+row 'a chain of 1000 memberships, its end denied' "$work/memberships" unsat

@@ -67,5 +67,5 @@ for n in 50000 100000; do
   union $(( n / 2 )) > "$work/script"
   row "one union of $(( n / 2 )) sets" "$work/script" 'done'
   equations $n > "$work/script"
-  row "$n equations of 1,000 sets" "$work/script" 'done'
+  row "$n equations of 1000 sets" "$work/script" 'done'
 done

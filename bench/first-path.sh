@@ -1,7 +1,8 @@
 #!/usr/bin/env bash
-# Times the shortest ways through the program. Two kinds of script: such as are read and no more, because 16 MiB hold
-# nothing to do or one token that is refused; and such of 1,000 commands, each of which is read, elaborated and, at the
-# one check-sat, decided. The answers are compared with those that are expected, and with cvc5 where it is installed.
+# Times setcard from the first byte of a script to its last answer where there is next to nothing to search: on 16 MiB of
+# white space, and on one token that is no command or is too long, which are only read; and on scripts of 1,000 commands
+# (declarations, memberships and one check-sat), satisfiable and not. The outcomes are compared with those that are
+# expected, and with cvc5 where it is installed.
 #
 # bench/first-path.sh [PROGRAM]: the program is crates/setcard/out/setcard, unless another is named.
 set -euo pipefail
@@ -33,5 +34,5 @@ begin_scripts "$setcard" speed
 row '16 MiB of white space' "$work/blanks" 'done'
 row 'one token of 16 MiB, no command' "$work/token" '(error "line 1: E5 malformed command")' alone
 row 'one token of 16 MiB and a byte, too long' "$work/long_token" "(error \"line 1: E16 limit $limit passed\")" alone
-row '1,000 commands, satisfiable' "$work/sat.smt2" sat
-row '1,000 commands, unsatisfiable' "$work/unsat.smt2" unsat
+row '1000 commands, satisfiable' "$work/sat.smt2" sat
+row '1000 commands, unsatisfiable' "$work/unsat.smt2" unsat

@@ -76,9 +76,9 @@ alone_row 'commands with comments' commented "$count" $(( 5 * count ))
 stretch literal '"' '"'
 alone_row 'one string literal' literal 1 1
 fill symbols '(set-info :notes (' "$(repeat a 4000)" '))'
-alone_row 'symbols of 4,000 bytes' symbols 1 $(( count + 6 ))
+alone_row 'symbols of 4000 bytes' symbols 1 $(( count + 6 ))
 fill lists '' "(set-info :notes ($list))" ''
-alone_row 'lists of 3,000 tokens' lists "$count" $(( 3006 * count ))
+alone_row 'lists of 3000 tokens' lists "$count" $(( 3006 * count ))
 fill list '(set-info :notes (' 'a bb 17' '))'
 alone_row 'one list of short tokens' list 1 $(( 3 * count + 6 ))
 fill inside "(set-info :notes $(repeat '(' 998)" 'a bb 17' "$(repeat ')' 998))"
@@ -96,8 +96,8 @@ begin_scripts "$setcard" speed
 row '16 MiB of comments' "$work/comments" 'done'
 row '16 MiB in one comment' "$work/comment" 'done'
 row '16 MiB of commands with comments' "$work/commented" 'done'
-row '16 MiB of symbols of 4,000 bytes' "$work/symbols" 'done'
-row '16 MiB of lists of 3,000 tokens' "$work/lists" 'done'
+row '16 MiB of symbols of 4000 bytes' "$work/symbols" 'done'
+row '16 MiB of lists of 3000 tokens' "$work/lists" 'done'
 row '16 MiB in one list of short tokens' "$work/list" 'done'
 row '16 MiB in one list, 998 deep' "$work/inside" 'done'
 row '16 MiB of lists that are 998 deep' "$work/deep" 'done'

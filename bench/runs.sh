@@ -28,7 +28,7 @@ for n in 1000 10000 100000; do
   work_row 'their union, intersection, difference' combine $n \
     "$(( n * 1000000 )) $(( n * 200000 )) $(( n * 400000 ))" "$building"
   work_row "has, $n times" has $n $(( n / 2 )) "$building"
-  work_row 'nth, 1,000 times' nth $n 1000 "$building"
+  work_row 'nth, 1000 times' nth $n 1000 "$building"
 done
 for n in 1000 10000 100000 190000; do
   work_row "a chain of $n unions" chain $n 1000000000001
