@@ -1,8 +1,8 @@
 #!/usr/bin/env bash
-# Times setcard from the first byte of a script to its last answer where there is next to nothing to search: on 16 MiB of
-# white space, and on one token that is no command or is too long, which are only read; and on scripts of 1,000 commands
-# (declarations, memberships and one check-sat), satisfiable and not. The outcomes are compared with those that are
-# expected, and with cvc5 where it is installed.
+# Times setcard from the first byte of a script to its last answer where there is next to nothing to search: on 16 MiB
+# of white space, and on one token that is no command or is too long, which are only read; and on scripts of 1,000
+# commands (declarations, memberships and one check-sat), satisfiable and not. The outcomes are compared with those that
+# are expected, and with cvc5 where it is installed.
 #
 # bench/first-path.sh [PROGRAM]: the program is crates/setcard/out/setcard, unless another is named.
 set -euo pipefail
