@@ -1,62 +1,97 @@
 #!/usr/bin/env bash
-# Times the Boolean search, beside cvc5 where it is installed.
-cd "$(dirname "$0")/.." || exit 1
-. bench/common.sh
+# Times the Boolean search, beside cvc5 where it is installed: implications, disjunctions and pigeons of Boolean
+# constants, and implications between memberships.
+#
+# bench/boolean.sh [PROGRAM]: the program is crates/setcard/out/setcard, unless another is named.
+set -euo pipefail
+# shellcheck source=bench/common.sh
+. "$(dirname "${BASH_SOURCE[0]}")/common.sh"
+setcard=$(program_of setcard "${1:-}")
 
-# eight disjunctions of sixteen constants, of which some pair is to be true as a whole
+# FIRST LAST: Boolean constants pFIRST .. pLAST
+constants() {
+  local i
+  echo '(set-logic ALL)'
+  for (( i = $1; i <= $2; i++ )); do echo "(declare-const p$i Bool)"; done
+}
+
+# eight pairs of constants: of each pair one is true, and of none both
 pairs() {
-  awk 'BEGIN {
-    for (i = 1; i <= 16; i++) print "(declare-const p" i " Bool)";
-    for (i = 1; i <= 16; i += 2) print "(assert (or p" i " p" i + 1 "))";
-    print "(assert (not (or"; for (i = 1; i <= 16; i += 2) print "(and p" i " p" i + 1 ")"; print ")))";
-    print "(check-sat)";
-  }'
+  local i
+  constants 1 16
+  for (( i = 1; i <= 16; i += 2 )); do echo "(assert (or p$i p$(( i + 1 ))))"; done
+  echo '(assert (not (or'
+  for (( i = 1; i <= 16; i += 2 )); do echo "(and p$i p$(( i + 1 )))"; done
+  echo ')))'
+  echo '(check-sat)'
 }
 
-# p1, and each constant implies the next; with 'last' the last one is denied
+# N END: p0, and each constant implies the next; where the end is 'denied', the last one is
 chain() {
-  awk -v n="$1" -v last="$2" 'BEGIN {
-    for (i = 0; i <= n; i++) print "(declare-const p" i " Bool)";
-    for (i = 0; i < n; i++) print "(assert (=> p" i " p" i + 1 "))";
-    print "(assert p0)";
-    if (last == "denied") print "(assert (not p" n "))";
-    print "(check-sat)";
-  }'
+  local i
+  constants 0 "$1"
+  for (( i = 0; i < $1; i++ )); do echo "(assert (=> p$i p$(( i + 1 ))))"; done
+  echo '(assert p0)'
+  if [[ $2 == denied ]]; then echo "(assert (not p$1))"; fi
+  echo '(check-sat)'
 }
 
+# N disjunctions of two constants each
 disjunctions() {
-  awk -v n="$1" 'BEGIN {
-    for (i = 0; i < 2 * n; i++) print "(declare-const p" i " Bool)";
-    for (i = 0; i < n; i++) print "(assert (or p" 2 * i " p" 2 * i + 1 "))";
-    print "(check-sat)";
-  }'
+  local i
+  constants 0 $(( 2 * $1 - 1 ))
+  for (( i = 0; i < $1; i++ )); do echo "(assert (or p$(( 2 * i )) p$(( 2 * i + 1 ))))"; done
+  echo '(check-sat)'
 }
 
-# PIGEONS into one hole less
+# N pigeons into N - 1 holes, no two into one
 pigeons() {
-  awk -v n="$1" 'BEGIN {
-    for (i = 1; i <= n; i++) for (j = 1; j < n; j++) print "(declare-const p" i "_" j " Bool)";
-    for (i = 1; i <= n; i++) { printf "(assert (or"; for (j = 1; j < n; j++) printf " p%d_%d", i, j; print "))"; }
-    for (j = 1; j < n; j++) for (i = 1; i <= n; i++) for (k = i + 1; k <= n; k++) printf "(assert (not (and p%d_%d p%d_%d)))\n", i, j, k, j;
-    print "(check-sat)";
-  }'
+  local n=$1 pigeon other hole
+  echo '(set-logic ALL)'
+  for (( pigeon = 1; pigeon <= n; pigeon++ )); do
+    for (( hole = 1; hole < n; hole++ )); do echo "(declare-const p${pigeon}_$hole Bool)"; done
+  done
+  for (( pigeon = 1; pigeon <= n; pigeon++ )); do
+    printf '(assert (or'
+    for (( hole = 1; hole < n; hole++ )); do printf ' p%d_%d' "$pigeon" "$hole"; done
+    echo '))'
+  done
+  for (( hole = 1; hole < n; hole++ )); do
+    for (( pigeon = 1; pigeon <= n; pigeon++ )); do
+      for (( other = pigeon + 1; other <= n; other++ )); do
+        echo "(assert (not (and p${pigeon}_$hole p${other}_$hole)))"
+      done
+    done
+  done
+  echo '(check-sat)'
 }
 
-# the laws of sets as an element sees them: x in some of the sets, by chains of implications between memberships
+# N implications, from an element's membership in one set to that in the next; it is in the first and not in the last
 memberships() {
-  awk -v n="$1" 'BEGIN {
-    print "(declare-sort U 0)"; print "(declare-const x U)";
-    for (i = 0; i <= n; i++) print "(declare-const S" i " (Set U))";
-    for (i = 0; i < n; i++) print "(assert (=> (set.member x S" i ") (set.member x S" i + 1 ")))";
-    print "(assert (set.member x S0))"; print "(assert (not (set.member x S" n ")))"; print "(check-sat)";
-  }'
+  local i
+  declared 1 $(( $1 + 1 ))
+  for (( i = 1; i <= $1; i++ )); do echo "(assert (=> (set.member e1 A$i) (set.member e1 A$(( i + 1 )))))"; done
+  echo '(assert (set.member e1 A1))'
+  echo "(assert (not (set.member e1 A$(( $1 + 1 )))))"
+  echo '(check-sat)'
 }
 
-pairs > "$work/pairs"; show 'eight pairs, one of each' "$work/pairs" both
+begin_scripts "$setcard"
+pairs > "$work/pairs"
+row 'eight pairs, one of each' "$work/pairs" sat
 for n in 1000 2000; do
-  chain $n denied > "$work/chain"; show "a chain of $n implications, unsatisfiable" "$work/chain" both
-  chain $n open > "$work/chain"; show "a chain of $n implications, satisfiable" "$work/chain" both
+  chain $n denied > "$work/chain"
+  row "a chain of $n implications, its end denied" "$work/chain" unsat
+  chain $n open > "$work/chain"
+  row "a chain of $n implications" "$work/chain" sat
 done
-for n in 200 2000; do disjunctions $n > "$work/or"; show "$n disjunctions" "$work/or" both; done
-for n in 4 5; do pigeons $n > "$work/pigeons"; show "$n pigeons into $(( n - 1 )) holes" "$work/pigeons" both; done
-memberships 1000 > "$work/members"; show 'a chain of 1,000 subsets at an element' "$work/members" both
+for n in 200 2000; do
+  disjunctions $n > "$work/disjunctions"
+  row "$n disjunctions" "$work/disjunctions" sat
+done
+for n in 4 5; do
+  pigeons $n > "$work/pigeons"
+  row "$n pigeons into $(( n - 1 )) holes" "$work/pigeons" unsat
+done
+memberships 1000 > "$work/memberships"
+row 'a chain of 1000 memberships, its end denied' "$work/memberships" unsat

@@ -1,46 +1,58 @@
 #!/usr/bin/env bash
-# Times how fast the built program checks derivations: one long branch, and many cuts inside one another. It builds
-# nothing: give the program's path, or build it first by 'rt run' in crates/setcard.
-cd "$(dirname "$0")/.." || exit 1
-. bench/common.sh
+# Times how fast derivations are checked: one long branch, and many cuts inside one another, each at three sizes, so
+# that growth shows. No other program reads these derivations, so there is nothing to compare with.
+#
+# bench/check.sh [PROGRAM]: the program is crates/setcard/out/setcard, unless another is named.
+set -euo pipefail
+# shellcheck source=bench/common.sh
+. "$(dirname "${BASH_SOURCE[0]}")/common.sh"
+setcard=$(program_of setcard "${1:-}")
 
-# a script of two memberships that contradict one another, and its one get-proof
-script='(declare-sort U 0)(declare-const x U)(declare-const A (Set U))
-(assert (set.member x A))(assert (not (set.member x A)))(check-sat)(get-proof)(exit)'
+# two memberships that contradict one another, and one get-proof
+contradiction() {
+  declared 1 1
+  printf '%s\n' '(assert (set.member e1 A1))' '(assert (not (set.member e1 A1)))' '(check-sat)' '(get-proof)' '(exit)'
+}
 
-# one branch: so many times the same step, and the clash
+# COUNT LINE: the line so many times
+lines() { awk -v n="$1" -v line="$2" 'BEGIN { for (i = 0; i < n; i++) print line }'; }
+
+# COUNT: one branch, so many times the same step, and the clash
 steps() {
-  awk -v n="$1" -v script="$script" 'BEGIN {
-    print script; print "(derivation"; print "(tree";
-    for (i = 0; i < n; i++) print "(unit 2 1)";
-    print "(clash (sign 1))"; print ")"; print ")";
-  }'
+  contradiction
+  printf '(derivation\n(tree\n'
+  lines "$1" '(unit 2 1)'
+  printf '(clash (sign 1))\n)\n)\n'
 }
 
-# so many cuts, each on the first branch of the one before, and a clash on each second branch
+# COUNT: so many cuts, each on the first branch of the one before, and a clash on each second branch
 cuts() {
-  awk -v n="$1" -v script="$script" 'BEGIN {
-    print script; print "(derivation"; print "(tree";
-    for (i = 0; i < n; i++) print "(cut (sign 1))";
-    print "(unit 2 1)";
-    for (i = 0; i <= n; i++) print "(clash (sign 1))";
-    print ")"; print ")";
-  }'
+  contradiction
+  printf '(derivation\n(tree\n'
+  lines "$1" '(cut (sign 1))'
+  echo '(unit 2 1)'
+  lines $(( $1 + 1 )) '(clash (sign 1))'
+  printf ')\n)\n'
 }
 
-# NAME NODES INPUT: the time, nodes a second, MB a second, and the last line of output
-show_check() {
-  local name=$1 nodes=$2 input=$3 us size line
-  us=$(best "$input" "$program" check)
-  size=$(stat -c %s "$input")
-  line=$(tail -n 1 "$work/out" | head -c 60)
-  awk -v n="$name" -v us="$us" -v nodes="$nodes" -v size="$size" -v line="$line" \
-    'BEGIN { printf "%-32s %9.2f ms %10.0f nodes/s %7.1f MB/s   %s\n", n, us / 1000, nodes * 1000000 / us, size / us, line }'
+# NAME NODES INPUT: times the check of one derivation, which is to be accepted
+check_row() {
+  local name=$1 nodes=$2 input=$3 time=- by_nodes=- by_bytes=-
+  measure_line "$input" "$setcard" check
+  if judge 'derivation 1: accepted'; then
+    time=$(milliseconds "$us")
+    by_nodes=$(quotient $(( nodes * 1000000 )) "$us" 0)
+    by_bytes=$(quotient "$(stat -c %s "$input")" "$us" 1)
+  fi
+  printf '%-46s %9s %12s %8s   %s\n' "$name" "$time" "$by_nodes" "$by_bytes" "$outcome"
 }
 
+printf '%-46s %9s %12s %8s   %s\n' "derivation (least of up to $runs runs)" ms nodes/s MB/s outcome
 for n in 50000 100000 200000; do
-  steps $n > "$work/steps"; show_check "$n steps on one branch" $(( n + 1 )) "$work/steps"
+  steps $n > "$work/steps"
+  check_row "$n steps on one branch" $(( n + 1 )) "$work/steps"
 done
 for n in 25000 50000 100000; do
-  cuts $n > "$work/cuts"; show_check "$n cuts" $(( 2 * n + 2 )) "$work/cuts"
+  cuts $n > "$work/cuts"
+  check_row "$n cuts" $(( 2 * n + 2 )) "$work/cuts"
 done

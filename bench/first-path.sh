@@ -1,22 +1,38 @@
 #!/usr/bin/env bash
-# Times the built program on inputs that it makes: white space and one long token of 16 MiB, and scripts of
-# 1,000 commands. It builds nothing: give the program's path, or build it first by 'rt run' in crates/setcard.
-# Where cvc5 is installed, the same scripts are given to it, and the ratio is printed.
-cd "$(dirname "$0")/.." || exit 1
-. bench/common.sh
+# Times setcard from the first byte of a script to its last answer where there is next to nothing to search: on 16 MiB
+# of white space, and on one token that is no command or is too long, which are only read; and on scripts of 1,000
+# commands (declarations, memberships and one check-sat), satisfiable and not. The outcomes are compared with those that
+# are expected, and with cvc5 where it is installed.
+#
+# bench/first-path.sh [PROGRAM]: the program is crates/setcard/out/setcard, unless another is named.
+set -euo pipefail
+# shellcheck source=bench/common.sh
+. "$(dirname "${BASH_SOURCE[0]}")/common.sh"
+setcard=$(program_of setcard "${1:-}")
+limit=16777216
 
-head -c 16777216 /dev/zero | tr '\0' ' ' > "$work/blanks"
-head -c 16777216 /dev/zero | tr '\0' 'a' > "$work/word"
-{
-  echo '(declare-sort U 0)'
-  for i in $(seq 1 400); do echo "(declare-const x$i U)"; done
-  for i in $(seq 1 98); do echo "(declare-const S$i (Set U))"; done
-  for i in $(seq 1 500); do echo "(assert (set.member x$(( i % 400 + 1 )) S$(( i % 98 + 1 ))))"; done
+# 999 commands, and the check-sat: 500 memberships of 400 elements in 97 sets
+satisfiable() {
+  local i
+  declared 400 97
+  for (( i = 1; i <= 500; i++ )); do echo "(assert (set.member e$(( i % 400 + 1 )) A$(( i % 97 + 1 ))))"; done
   echo '(check-sat)'
-} > "$work/sat.smt2"
-{ head -n 998 "$work/sat.smt2"; echo '(assert (not (set.member x2 S2)))'; echo '(check-sat)'; } > "$work/unsat.smt2"
+}
 
-show '16 MiB of white space' "$work/blanks"
-show '16 MiB of one symbol' "$work/word"
-show '1,000 commands, satisfiable' "$work/sat.smt2" both
-show '1,000 commands, unsatisfiable' "$work/unsat.smt2" both
+# the same, but for the last membership, in place of which the first one is denied
+unsatisfiable() {
+  satisfiable | sed '999s/.*/(assert (not (set.member e2 A2)))/'
+}
+
+repeat ' ' $limit > "$work/blanks"
+repeat a $limit > "$work/token"
+repeat a $(( limit + 1 )) > "$work/long_token"
+satisfiable > "$work/sat.smt2"
+unsatisfiable > "$work/unsat.smt2"
+
+begin_scripts "$setcard" speed
+row '16 MiB of white space' "$work/blanks" 'done'
+row 'one token of 16 MiB, no command' "$work/token" '(error "line 1: E5 malformed command")' alone
+row 'one token of 16 MiB and a byte, too long' "$work/long_token" "(error \"line 1: E16 limit $limit passed\")" alone
+row '1000 commands, satisfiable' "$work/sat.smt2" sat
+row '1000 commands, unsatisfiable' "$work/unsat.smt2" unsat

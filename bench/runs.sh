@@ -1,25 +1,35 @@
 #!/usr/bin/env bash
 # Times sets of many runs, more than a script can bring about, and the value of the last of a long chain of terms, each
-# at several sizes, so that growth shows. It builds the program crates/bench_runs, or takes the path of a built one.
-# Each work begins with building the sets: take the time of 'build' off.
-cd "$(dirname "$0")/.." || exit 1
-[ -n "${1:-}" ] || (cd crates/bench_runs && rt run -- build 1 > /dev/null) || exit 1
-. bench/common.sh "${1:-crates/bench_runs/out/bench_runs}"
+# at several sizes, so that growth shows. A library is timed here, by the program crates/bench_runs; there is nothing to
+# compare with. What the program prints is compared with what is expected.
+#
+# bench/runs.sh [PROGRAM]: the program is crates/bench_runs/out/bench_runs, unless another is named.
+set -euo pipefail
+# shellcheck source=bench/common.sh
+. "$(dirname "${BASH_SOURCE[0]}")/common.sh"
+bench_runs=$(program_of bench_runs "${1:-}")
 
-# NAME WORK COUNT: the time, and what is printed
-time_work() {
-  local us
-  us=$(best /dev/null "$program" "$2" "$3")
-  awk -v n="$1" -v us="$us" -v line="$(cat "$work/out")" \
-    'BEGIN { printf "%-44s %9.2f ms   %s\n", n, us / 1000, line }'
+# NAME WORK COUNT EXPECTED [BUILDING]: times a work, which is to print what is expected; the microseconds of the
+# building with which it begins are taken off in a second column
+work_row() {
+  local name=$1 expected=$4 building=${5:-} time=- rest=-
+  measure_line /dev/null "$bench_runs" "$2" "$3"
+  if judge "$expected"; then
+    time=$(milliseconds "$us")
+    if [[ -n $building ]]; then rest=$(milliseconds $(( us > building ? us - building : 0 ))); fi
+  fi
+  printf '%-46s %9s %17s   %s\n' "$name" "$time" "$rest" "$outcome"
 }
 
+printf '%-46s %9s %17s   %s\n' "work (least of up to $runs runs)" ms 'ms less building' outcome
 for n in 1000 10000 100000; do
-  time_work "build two sets of $n runs" build $n
-  time_work 'and their union, intersection, difference' combine $n
-  time_work "and has, $n times" has $n
-  time_work 'and nth, 1,000 times' nth $n
+  work_row "build two sets of $n runs" build $n "$(( n * 600000 )) $(( n * 600000 ))"
+  building=$us
+  work_row 'their union, intersection, difference' combine $n \
+    "$(( n * 1000000 )) $(( n * 200000 )) $(( n * 400000 ))" "$building"
+  work_row "has, $n times" has $n $(( n / 2 )) "$building"
+  work_row 'nth, 1000 times' nth $n 1000 "$building"
 done
 for n in 1000 10000 100000 190000; do
-  time_work "a chain of $n unions" chain $n
+  work_row "a chain of $n unions" chain $n 1000000000001
 done

@@ -1,5 +1,5 @@
-; A cache holds keys of a store; after an insertion it still does, and a lookup of what was inserted can't miss.
 (set-logic ALL)
+; A cache holds keys of a store. Can it hold others after some left it and one of the store came? Expected: unsat.
 (declare-sort Key 0)
 (declare-const k Key)
 (declare-const Store (Set Key))

@@ -1,3 +1,5 @@
+(set-logic ALL)
+; Can alice be an admin and not be one? Expected: unsat.
 (declare-sort U 0)
 (declare-const alice U)
 (declare-const Admins (Set U))

@@ -1,3 +1,5 @@
+(set-logic ALL)
+; Can alice be an admin and a user while bob is no admin? Expected: sat.
 (declare-sort U 0)
 (declare-const alice U)
 (declare-const bob U)

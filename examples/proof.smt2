@@ -1,4 +1,5 @@
 (set-logic ALL)
+; A cache holds keys of a store. Can it hold others after some left it? Expected: unsat, and a derivation.
 (declare-sort Key 0)
 (declare-const Store (Set Key))
 (declare-const Cache (Set Key))

@@ -1,4 +1,6 @@
-(set-logic QF_UFFS)
+(set-logic ALL)
+; Alice is staff if she is an admin, and she is either locked or an admin. Can that be? And can she also be neither
+; locked nor staff? Expected: sat, unsat.
 (declare-sort User 0)
 (declare-const alice User)
 (declare-const Admins (Set User))
