@@ -5,7 +5,7 @@
 #
 # bench/elaborate.sh [PROGRAM]: the program is crates/setcard/out/setcard, unless another is named.
 set -euo pipefail
-# shellcheck source=bench/common.sh
+# shellcheck source=common.sh
 . "$(dirname "${BASH_SOURCE[0]}")/common.sh"
 setcard=$(program_of setcard "${1:-}")
 

@@ -6,7 +6,7 @@
 #
 # bench/first-path.sh [PROGRAM]: the program is crates/setcard/out/setcard, unless another is named.
 set -euo pipefail
-# shellcheck source=bench/common.sh
+# shellcheck source=common.sh
 . "$(dirname "${BASH_SOURCE[0]}")/common.sh"
 setcard=$(program_of setcard "${1:-}")
 limit=16777216

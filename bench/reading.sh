@@ -11,7 +11,7 @@
 # bench/reading.sh [PROGRAM [READER]]: the programs are crates/setcard/out/setcard and
 # crates/bench_reading/out/bench_reading, unless others are named.
 set -euo pipefail
-# shellcheck source=bench/common.sh
+# shellcheck source=common.sh
 . "$(dirname "${BASH_SOURCE[0]}")/common.sh"
 setcard=$(program_of setcard "${1:-}")
 reader=$(program_of bench_reading "${2:-}")

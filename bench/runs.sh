@@ -5,7 +5,7 @@
 #
 # bench/runs.sh [PROGRAM]: the program is crates/bench_runs/out/bench_runs, unless another is named.
 set -euo pipefail
-# shellcheck source=bench/common.sh
+# shellcheck source=common.sh
 . "$(dirname "${BASH_SOURCE[0]}")/common.sh"
 bench_runs=$(program_of bench_runs "${1:-}")
 
