@@ -10,6 +10,7 @@ use std::test::Fail;
 fn solved(alloc: Global, text: Vec<u8>, most: usize) -> Result<(u8, Vec<u8>, u64), Fail> {
     let mut words = Vec::new(alloc);
     words.push(String::from_str(alloc, "solve")?)?;
+    let most = most.max(1);
     let mut source = MemorySource::new(text, Vec::new(alloc), most);
     let mut out = MemorySink::new(alloc, Vec::new(alloc), 4_096);
     let ended = run(&(), alloc, &words, &mut source, &mut out, &OpenGate);
