@@ -8,13 +8,6 @@ set -euo pipefail
 . "$(dirname "${BASH_SOURCE[0]}")/common.sh"
 setcard=$(program_of setcard "${1:-}")
 
-# FIRST LAST: Boolean constants pFIRST .. pLAST
-constants() {
-  local i
-  echo '(set-logic ALL)'
-  for (( i = $1; i <= $2; i++ )); do echo "(declare-const p$i Bool)"; done
-}
-
 # eight pairs of constants: of each pair one is true, and of none both
 pairs() {
   local i

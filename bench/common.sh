@@ -55,6 +55,13 @@ milliseconds() { quotient "$1" 1000 2; }
 # CHARACTER COUNT: the character so many times
 repeat() { head -c "$2" /dev/zero | tr '\0' "$1"; }
 
+# FIRST LAST: Boolean constants pFIRST .. pLAST
+constants() {
+  local i
+  echo '(set-logic ALL)'
+  for (( i = $1; i <= $2; i++ )); do echo "(declare-const p$i Bool)"; done
+}
+
 # ELEMENTS SETS: a script's head, with elements e1 .. and sets A1 .. of a declared sort
 declared() {
   local i

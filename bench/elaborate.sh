@@ -9,22 +9,15 @@ set -euo pipefail
 . "$(dirname "${BASH_SOURCE[0]}")/common.sh"
 setcard=$(program_of setcard "${1:-}")
 
-# 400 Boolean constants
-constants() {
-  local i
-  echo '(set-logic ALL)'
-  for (( i = 0; i < 400; i++ )); do echo "(declare-const p$i Bool)"; done
-}
-
 # COUNT assertions, each an `or` of two constants, no two the same
 assertions() {
-  constants
+  constants 0 399
   awk -v n="$1" 'BEGIN { for (k = 0; k < n; k++) print "(assert (or p" int(k / 400) " p" k % 400 "))" }'
 }
 
 # one `and` of COUNT parts, each an `or` of two constants, no two the same
 conjunction() {
-  constants
+  constants 0 399
   awk -v n="$1" 'BEGIN {
     printf "(assert (and"
     for (k = 0; k < n; k++) printf " (or p%d p%d)", int(k / 400), k % 400
