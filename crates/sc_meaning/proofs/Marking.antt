@@ -4,7 +4,7 @@ use Rattle.std.specs.Prelude.{slice_set}
 use Rattle.std.proofs.lemmas.List.{drop_more}
 use Rattle.sc_terms.specs.declared.atoms.Atom.{Atom}
 use Rattle.sc_terms.specs.declared.nodes.Node.{Node}
-use Rattle.sc_meaning.specs.Under.{atom_parts, form_parts}
+use Rattle.sc_terms.specs.Under.{atom_parts, form_parts}
 use Rattle.sc_meaning.specs.Marks.{with_marks, swept_once, swept, unmarked}
 
 pub unmarked_more : (n : ℕ) → unmarked n ++ false ∷ [] ≡ unmarked (n + 1)

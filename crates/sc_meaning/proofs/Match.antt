@@ -23,8 +23,8 @@ use Rattle.sc_terms.specs.Lookup.{basis_of}
 use Rattle.sc_terms.specs.Meaning.{Interpretation, Valuation, same_elements, is_inside, first_inside, cube_members, atom_value, form_value, truth_of, members_of, element_of}
 use Rattle.sc_terms.specs.Values.{TermFits, FormulaFits, ElementFits}
 use Rattle.sc_meaning.proofs.Sets.{in_order_again, all_in_order}
-use Rattle.sc_meaning.specs.Worths.{Matches, NodeFits, IsPlain}
-use Rattle.sc_meaning.specs.Under.{atom_parts, form_parts, formula_parts, set_parts, element_parts, node_parts}
+use Rattle.sc_meaning.specs.Worths.{Matches, IsPlain}
+use Rattle.sc_terms.specs.Under.{atom_parts, form_parts, formula_parts, set_parts, element_parts, node_parts, NodeFits}
 
 -- a bank has no regions
 no_basis : (n : ℕ) → basis_of no_parts n ≡ []

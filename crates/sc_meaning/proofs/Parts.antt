@@ -21,7 +21,7 @@ use Rattle.sc_terms.specs.Conditions.{IsIn}
 use Rattle.sc_terms.specs.Bank.{is_formula, is_set, is_element, IsFormulaOf, IsSetOf, IsElementOf, AtomStands, TermStands, FormulaStands, SetStands, ElementStands, NodeStands, IsBank}
 use Rattle.sc_terms.proofs.Ranges.{item_in}
 use Rattle.sc_terms.proofs.Grown.{stands_below}
-use Rattle.sc_meaning.specs.Under.{atom_parts, form_parts, formula_parts, set_parts, element_parts, node_parts}
+use Rattle.sc_terms.specs.Under.{atom_parts, form_parts, formula_parts, set_parts, element_parts, node_parts}
 
 kind_in : (t : Option Node → Bool) (xs : List Node) (m : ℕ) → t None ≡ false → t (item_at xs m) ≡ true → IsIn (length xs) m
 kind_in t xs m none e = by (item_at xs m) refl e

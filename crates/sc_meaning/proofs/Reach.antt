@@ -9,7 +9,7 @@ use Rattle.sc_terms.specs.declared.nodes.Node.{Node}
 use Rattle.sc_terms.specs.Lookup.{is_listed}
 use Rattle.sc_terms.specs.Conditions.{IsIn}
 use Rattle.sc_terms.specs.Bank.{IsBank}
-use Rattle.sc_meaning.specs.Under.{node_parts, Under, top, part}
+use Rattle.sc_terms.specs.Under.{node_parts, Under, top, part}
 use Rattle.sc_meaning.specs.Marks.{marked, with_marks, with_parts, swept_once, swept, unmarked, reached}
 use Rattle.sc_meaning.proofs.Parts.{part_below, listed_all}
 

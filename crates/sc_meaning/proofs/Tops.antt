@@ -5,7 +5,7 @@ use Rattle.std.proofs.lemmas.List.{drop_more, drop_all, take_all}
 use Rattle.sc_base.proofs.Integers.{all_weaker}
 use Rattle.sc_terms.specs.declared.atoms.Atom.{Atom}
 use Rattle.sc_terms.specs.Conditions.{IsIn}
-use Rattle.sc_meaning.specs.Under.{atom_parts, form_parts}
+use Rattle.sc_terms.specs.Under.{atom_parts, form_parts}
 
 -- ---- the greatest
 pub item_within : (limit : ℕ) (ns : List ℕ) (i d : ℕ) → i < length ns → AllByRecursion (IsIn limit) ns → IsIn limit (get_or ns i d)

@@ -25,8 +25,8 @@ use Rattle.sc_meaning.specs.declared.values.Worth.{Worth}
 use Rattle.sc_meaning.specs.Marks.{marked, reached}
 use Rattle.sc_meaning.specs.Pass.{worth_if, FitsIf, worths_up, FitsUp}
 use Rattle.sc_meaning.specs.Results.{EvaluatesTo, Evaluates}
-use Rattle.sc_meaning.specs.Under.{form_parts, node_parts, FitUnder}
-use Rattle.sc_meaning.specs.Worths.{flag_in, number_in, members_in, found, worth_by, NodeFits, Matches}
+use Rattle.sc_terms.specs.Under.{form_parts, node_parts, FitUnder, NodeFits}
+use Rattle.sc_meaning.specs.Worths.{flag_in, number_in, members_in, found, worth_by, Matches}
 use Rattle.sc_meaning.proofs.Match.{form_same, terms_fit, truth_same, members_same, element_same, node_fits}
 use Rattle.sc_meaning.proofs.Parts.{part_below, all_listed, listed_all, formula_in_range}
 use Rattle.sc_meaning.proofs.Passing.{fits_before}

@@ -1,7 +1,6 @@
 pub mod Results
 pub mod Totals
 pub mod Worths
-pub mod Under
 pub mod Marks
 pub mod Pass
 pub mod Answers

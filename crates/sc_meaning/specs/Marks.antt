@@ -2,7 +2,7 @@
 use Rattle.std.specs.Prelude.{ℕ, zero, suc, ◌+◌, Bool, true, false, if◌then◌else◌, List, [], ◌∷◌, Option, Some, None, slice_set, slice_index_or}
 use Rattle.sc_base.specs.Numbered.{item_at}
 use Rattle.sc_terms.specs.declared.nodes.Node.{Node}
-use Rattle.sc_meaning.specs.Under.{node_parts}
+use Rattle.sc_terms.specs.Under.{node_parts}
 
 abbrev pub marked : List Bool → ℕ → Bool
 marked marks n = slice_index_or marks n false

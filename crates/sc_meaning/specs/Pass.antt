@@ -6,7 +6,8 @@ use Rattle.sc_terms.specs.Meaning.{Interpretation, Valuation}
 use Rattle.sc_meaning.specs.declared.values.Worth.{Worth}
 use Rattle.sc_meaning.specs.declared.values.Worth.TheVariants.{Unknown}
 use Rattle.sc_meaning.specs.Marks.{marked}
-use Rattle.sc_meaning.specs.Worths.{found, worth_by, NodeFits}
+use Rattle.sc_terms.specs.Under.{NodeFits}
+use Rattle.sc_meaning.specs.Worths.{found, worth_by}
 
 -- the value of a marked node by its parts' values
 abbrev pub worth_if : Bool → Interpretation → Valuation → Option Node → Worth

@@ -7,7 +7,6 @@ use Rattle.sc_terms.specs.declared.nodes.Node.{Node}
 use Rattle.sc_terms.specs.declared.nodes.Node.TheVariants as nodes
 use Rattle.sc_terms.specs.BankValues.{no_parts}
 use Rattle.sc_terms.specs.Meaning.{Interpretation, Valuation, truth_of, members_of, element_of}
-use Rattle.sc_terms.specs.Values.{FormulaFits, ElementFits}
 use Rattle.sc_meaning.specs.declared.values.Worth.{Worth}
 use Rattle.sc_meaning.specs.declared.values.Worth.TheVariants.{Flag, Number, Set}
 
@@ -38,12 +37,6 @@ abbrev pub worth_by : Interpretation → Valuation → Node → Worth
 worth_by i v (nodes.Formula f) = Flag (truth_of no_parts i v f)
 worth_by i v (nodes.Set s) = Set (in_order (members_of i v s))
 worth_by i v (nodes.Element e) = Number (element_of no_parts i v e)
-
--- each product of the node's form, the value of an Int term, the left side of an inequality, and each size in them, fits 128 bits
-abbrev pub NodeFits : Valuation → Node → Type 0
-NodeFits v (nodes.Formula f) = FormulaFits no_parts v f
-NodeFits v (nodes.Element e) = ElementFits no_parts v e
-NodeFits v (nodes.Set s) = ⊤
 
 -- a node that is no differing element
 abbrev pub IsPlain : Node → Type 0

@@ -12,7 +12,7 @@ ghost use Rattle.sc_terms.specs.declared.nodes.Element.TheVariants as elements;
 ghost use Rattle.sc_base.specs.Numbered.{item_at};
 ghost use Rattle.sc_meaning.specs.Answers.{values_by, failing_from, first_false};
 ghost use Rattle.sc_meaning.specs.Results.{EvaluatesTo, Evaluates};
-ghost use Rattle.sc_meaning.specs.Under.{atom_parts, form_parts, FitUnder};
+ghost use Rattle.sc_terms.specs.Under.{atom_parts, form_parts, FitUnder};
 ghost use Rattle.sc_meaning.specs.Worths.{flag_in, found, Matches};
 
 use crate::error::EvalError;

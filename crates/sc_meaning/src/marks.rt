@@ -3,7 +3,7 @@
 ghost use Rattle.std.specs.Prelude.{◌≡◌, ◌<◌, ◌≤◌, ◌+◌, true, false, [], ◌∷◌, length, IfOk, slice_set};
 ghost use Rattle.std.specs.List.{AllByRecursion};
 ghost use Rattle.sc_meaning.specs.Marks.{marked, unmarked, with_marks, swept_once, swept, reached};
-ghost use Rattle.sc_meaning.specs.Under.{atom_parts, form_parts, formula_parts, set_parts, element_parts, node_parts};
+ghost use Rattle.sc_terms.specs.Under.{atom_parts, form_parts, formula_parts, set_parts, element_parts, node_parts};
 
 use sc_terms::{Atom, Bank, Element, Formula, Memory, Node, SetTerm};
 use std::alloc::Global;

@@ -10,7 +10,8 @@ ghost use Rattle.sc_terms.specs.BankValues.{no_parts};
 ghost use Rattle.sc_terms.specs.Meaning.{same_elements, atom_value, form_value, members_of, element_of, truth_of};
 ghost use Rattle.sc_terms.specs.Values.{interpretation_of, TermFits, FormulaFits, ElementFits};
 ghost use Rattle.sc_meaning.specs.Results.{Evaluates};
-ghost use Rattle.sc_meaning.specs.Worths.{flag_in, found, worth_by, NodeFits, IsPlain};
+ghost use Rattle.sc_terms.specs.Under.{NodeFits};
+ghost use Rattle.sc_meaning.specs.Worths.{flag_in, found, worth_by, IsPlain};
 ghost use Rattle.sc_terms.specs.declared.nodes.Node.TheVariants as nodes;
 
 use crate::constants;

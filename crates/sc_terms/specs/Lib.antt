@@ -9,3 +9,4 @@ pub mod Conditions
 pub mod Literals
 pub mod Bank
 pub mod BankValues
+pub mod Under

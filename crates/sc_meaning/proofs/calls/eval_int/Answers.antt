@@ -2,7 +2,7 @@ use Rattle.std.proofs.Common.{sym, ap, subst, length, ◌∙◌}
 use Rattle.std.specs.List.{AllByRecursion}
 use Rattle.sc_terms.specs.Conditions.{IsIn}
 use Rattle.sc_terms.specs.Values.{interpretation_of}
-use Rattle.sc_meaning.specs.Under.{form_parts}
+use Rattle.sc_terms.specs.Under.{form_parts}
 use Rattle.sc_meaning.proofs.Parts.{atoms_in}
 use Rattle.sc_meaning.proofs.Whole.{int_by}
 use Rattle.sc_meaning.proofs.calls.eval_int.Goals as goal

@@ -1,5 +1,5 @@
 use Rattle.std.proofs.Common.{◌≡◌, ◌++◌, drop}
-use Rattle.sc_meaning.specs.Under.{form_parts}
+use Rattle.sc_terms.specs.Under.{form_parts}
 use Rattle.sc_meaning.proofs.calls.named.Given as goal
 
 abbrev pub invariant-loop-term : goal.invariant-loop-term

@@ -1,5 +1,5 @@
--- The nodes that stand under others: these themselves, their parts, the parts of those, and so on.
-use Rattle.std.specs.Prelude.{◌≡◌, ℕ, true, ℤ, List, [], ◌∷◌, ◌++◌, Some}
+-- The nodes that stand under others: these themselves, their parts, the parts of those, and so on; and when each number that their evaluation meets fits 128 bits.
+use Rattle.std.specs.Prelude.{◌≡◌, ℕ, true, ℤ, List, [], ◌∷◌, ◌++◌, Some, ⊤}
 use Rattle.sc_base.specs.Numbered.{item_at}
 use Rattle.sc_terms.specs.declared.atoms.Atom.{Atom}
 use Rattle.sc_terms.specs.declared.atoms.Atom.TheVariants as atoms
@@ -13,7 +13,8 @@ use Rattle.sc_terms.specs.declared.nodes.SetTerm.{SetTerm}
 use Rattle.sc_terms.specs.declared.nodes.SetTerm.TheVariants as sets
 use Rattle.sc_terms.specs.Lookup.{is_listed}
 use Rattle.sc_terms.specs.Meaning.{Valuation}
-use Rattle.sc_meaning.specs.Worths.{NodeFits}
+use Rattle.sc_terms.specs.BankValues.{no_parts}
+use Rattle.sc_terms.specs.Values.{FormulaFits, ElementFits}
 
 -- the nodes that a node names
 abbrev pub atom_parts : Atom → List ℕ
@@ -61,6 +62,12 @@ node_parts (nodes.Element e) = element_parts e
 pub data Under (bank : List Node) (tops : List ℕ) : ℕ → Type 0 where
   top : (n : ℕ) → is_listed n tops ≡ true → Under bank tops n
   part : (n m : ℕ) (x : Node) → Under bank tops n → item_at bank n ≡ Some x → is_listed m (node_parts x) ≡ true → Under bank tops m
+
+-- each product of the node's form, the value of an Int term, the left side of an inequality, and each size in them, fits 128 bits
+abbrev pub NodeFits : Valuation → Node → Type 0
+NodeFits v (nodes.Formula f) = FormulaFits no_parts v f
+NodeFits v (nodes.Element e) = ElementFits no_parts v e
+NodeFits v (nodes.Set s) = ⊤
 
 -- every number that an evaluation of the nodes of the list meets fits 128 bits
 abbrev pub FitUnder : List Node → List ℕ → Valuation → Type 0
