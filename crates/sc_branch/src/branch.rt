@@ -1,7 +1,7 @@
 //! A branch of the search.
 
 ghost use Rattle.std.specs.Prelude.{◌≡◌, ◌<◌, length, IfOk, IfSome};
-ghost use Rattle.sc_sorts.specs.Pure.{IsPure, IsOfBank};
+ghost use Rattle.sc_sorts.specs.Posed.{IsPure, IsOfBank};
 ghost use Rattle.sc_terms.specs.Values.{Shows};
 ghost use Rattle.sc_model.specs.Deciding.{Concludes, Divides};
 ghost use Rattle.sc_tree.specs.Events.{AllowsOn, HasNoClash};

@@ -1,7 +1,7 @@
 //! Values that are read off a path and tried.
 
 ghost use Rattle.std.specs.Prelude.{◌≡◌, true, IfOk, IfSome};
-ghost use Rattle.sc_sorts.specs.Pure.{IsPure, IsOfBank};
+ghost use Rattle.sc_sorts.specs.Posed.{IsPure, IsOfBank};
 ghost use Rattle.sc_terms.specs.BankValues.{bank_meaning};
 ghost use Rattle.sc_terms.specs.Meaning.{AllTrue};
 ghost use Rattle.sc_terms.specs.Values.{interpretation_of, Shows};

@@ -35,7 +35,7 @@ use Rattle.sc_elab.specs.Heads.{head_of}
 use Rattle.sc_elab.specs.States.{State, Outcome, Done, Fault, bind, each, put, put_formula, put_set}
 use Rattle.sc_elab.specs.Builds.{negation, disjunction, from_left, from_right, equal, difference, exclusive_or, equation, neighbours, pairs, conjoined, conjunction, chain, apart, choice, single, union, joined, inclusion, build}
 use Rattle.sc_elab.specs.Elab.{meant, leaf_formula, leaf_value, constant, empty_set, first_sort, sort_made, named_term, word_term, name_term, token_term, numbers, deepest, application_fault, built, apply, list_term, term, behind_head, terms, need_bool, core}
-use Rattle.sc_sorts.specs.Pure.{IsPureFormula, IsPureNode, IsPureBank}
+use Rattle.sc_sorts.specs.Posed.{IsPureFormula, IsPureNode, IsPureBank}
 
 -- ---- what is true of a bank, and stays so where a node without integers is put behind it
 module _ (Is : List Node → Type 0) (more : (bank : List Node) (x : Node) → Is bank → IsPureNode x → Is (bank ++ x ∷ [])) where

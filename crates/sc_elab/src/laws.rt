@@ -8,7 +8,7 @@ ghost use Rattle.sc_terms.specs.declared.nodes.Sort.{Sort};
 ghost use Rattle.sc_terms.specs.Bank.{IsBank, Begins, IsFormulaOf, HasSorts};
 ghost use Rattle.sc_terms.specs.BankValues.{bank_meaning};
 ghost use Rattle.sc_terms.specs.Meaning.{Interpretation, IsInterpretation};
-ghost use Rattle.sc_sorts.specs.Pure.{IsPureBank};
+ghost use Rattle.sc_sorts.specs.Posed.{IsPureBank};
 ghost use Rattle.sc_sorts.specs.Sorted.{IsWellSortedBank};
 ghost use Rattle.sc_stack.specs.declared.stack.Constant.{Constant};
 ghost use Rattle.sc_stack.specs.Names.{Names, IsSort, sorts_of, with_sort, with_constant};

@@ -50,12 +50,12 @@ module _ (bank : List Node) (is : IsBank bank) (assertions : List ℕ) (by : Num
   abbrev problem : Parts
   problem = problem_by bank assertions by
 
-  int_agrees : (c : ℕ) → IsAmong by.ints c → v.int (number_in by.ints c) ≡ w.int c
+  pub int_agrees : (c : ℕ) → IsAmong by.ints c → v.int (number_in by.ints c) ≡ w.int c
   int_agrees c h = fits.ints (number_in by.ints c) c (number_there by.ints c h) ∙ sym (bank_fits.ints c)
 
   -- what is made of parts that agree agrees
   module _ (below : ℕ → Type 0) (agree : (n : ℕ) → below n → AgreesAt by v w n) where
-    form_agrees : (form : List (ℤ × Atom)) → AllByRecursion (TermListed by) form → AllByRecursion below (form_parts form) → form_value problem v (form_in by form) ≡ form_value no_parts w form
+    pub form_agrees : (form : List (ℤ × Atom)) → AllByRecursion (TermListed by) form → AllByRecursion below (form_parts form) → form_value problem v (form_in by form) ≡ form_value no_parts w form
     form_agrees [] h p = refl
     form_agrees ((z, atoms.Int n) ∷ ps) h p =
         placed_value problem v (z, atoms.Int (number_in by.ints n)) (form_in by ps)
@@ -131,7 +131,7 @@ module _ (bank : List Node) (is : IsBank bank) (assertions : List ℕ) (by : Num
           ∙ element_value_by (item_at bank n) refl (all_to (λ m. ElementListedAt by (item_at bank m)) by.elements whole.elements n h) parts_agree;
     }
 
-  all_below_agree : (k m : ℕ) → m < k → AgreesAt by v w m
+  pub all_below_agree : (k m : ℕ) → m < k → AgreesAt by v w m
   all_below_agree zero m h = absurd (omega arith)
   all_below_agree (suc k) m h = agrees m (λ j g. all_below_agree k j (omega arith))
 

@@ -21,7 +21,11 @@ pub mod Meanings
 pub mod Sorted
 pub mod Ascending
 pub mod Sortings
-pub mod Pures
+pub mod PlainForms
+pub mod Lacking
+pub mod Fitting
 pub mod Differing
 pub mod Unnamed
 pub mod Staying
+pub mod OneNode
+pub mod Posing

@@ -11,7 +11,7 @@ use Rattle.sc_terms.specs.declared.nodes.Node.TheVariants as nodes
 use Rattle.sc_terms.specs.declared.nodes.SetTerm.{SetTerm}
 use Rattle.sc_terms.specs.declared.nodes.SetTerm.TheVariants as sets
 use Rattle.sc_terms.specs.declared.problem.Parts.{Parts}
-use Rattle.sc_sorts.specs.Pure.{IsNoDiff, FormulaNamesNoDiff, SetNamesNoDiff, NamesNoDiff}
+use Rattle.sc_sorts.specs.Posed.{IsNoDiff, FormulaNamesNoDiff, SetNamesNoDiff, NamesNoDiff}
 use Rattle.sc_flatten.specs.Classes.{pairs_of, diff_of_pair}
 use Rattle.sc_flatten.specs.Stock.{Numbering, numbering_of, number_in, formula_in, set_in, element_in, formula_by, set_by, element_by, formulas_by, walked_by, problem_by}
 use Rattle.sc_flatten.specs.Numbered.{IsAmong, FormulaListed, SetListed, ElementListed, FormulaListedAt, SetListedAt, ElementListedAt, IsWhole}

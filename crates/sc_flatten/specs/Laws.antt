@@ -18,7 +18,8 @@ use Rattle.sc_terms.specs.Conditions.{IsProblem}
 use Rattle.sc_terms.specs.Meaning.{Interpretation, IsInterpretation}
 use Rattle.sc_terms.specs.Values.{meaning}
 use Rattle.sc_sorts.specs.Sorted.{IsWellSorted, IsWellSortedBank}
-use Rattle.sc_sorts.specs.Pure.{IsPureFormula, IsPureElement, IsPureBank, HasDiffs, NamesNoDiff}
+use Rattle.sc_terms.specs.Under.{FitUnder}
+use Rattle.sc_sorts.specs.Posed.{HasPlainForm, ElementHasPlainForm, HasDiffs, NamesNoDiff, NodesFit, IsPosed, IsPosedBank}
 use Rattle.sc_flatten.specs.Classes.{links_of, least_of, homes_of, components_of}
 use Rattle.sc_flatten.specs.Stock.{stock}
 
@@ -69,11 +70,23 @@ SortsStay =
 abbrev pub StocksStaySorted : Type 0
 StocksStaySorted = (bank : List Node) (assertions : List ℕ) → IsBank bank → AreFormulasOf bank assertions → IsWellSortedBank bank → IsWellSorted (stock bank assertions)
 
--- ---- pure sets
--- The stock of a bank without inequalities and Int terms has none.
-pub record StocksStayPure : Type 0 where
-  pub formulas : (bank : List Node) (assertions : List ℕ) → IsPureBank bank → AllByRecursion IsPureFormula (stock bank assertions).formulas
-  pub elements : (bank : List Node) (assertions : List ℕ) → IsPureBank bank → AllByRecursion IsPureElement (stock bank assertions).elements
+-- ---- what may be decided
+-- The forms of a stock have Int constants and cards alone.
+pub record StocksHavePlainForms : Type 0 where
+  pub formulas : (bank : List Node) (assertions : List ℕ) → IsBank bank → AreFormulasOf bank assertions → AllByRecursion HasPlainForm (stock bank assertions).formulas
+  pub elements : (bank : List Node) (assertions : List ℕ) → IsBank bank → AreFormulasOf bank assertions → AllByRecursion ElementHasPlainForm (stock bank assertions).elements
+
+-- Under an interpretation under which each number that an evaluation of the assertions meets fits 128 bits, each that one of the stock's nodes meets does.
+abbrev pub StocksFit : Type 0
+StocksFit =
+    (bank : List Node) (assertions : List ℕ) → IsBank bank → AreFormulasOf bank assertions → (i : Interpretation) → IsInterpretation i
+    → FitUnder bank assertions (bank_meaning bank i) → NodesFit (stock bank assertions) (meaning (stock bank assertions) i)
+
+-- The stock of formulas of a bank that may have them posed may be decided.
+abbrev pub StocksArePosed : Type 0
+StocksArePosed =
+    (known : List Sort) (bank : List Node) (assertions : List ℕ) → IsBank bank → IsPosedBank known bank → AreFormulasOf bank assertions
+    → IsPosed (stock bank assertions) bank
 
 -- The sides of each equation of a stock have their differing element.
 abbrev pub StocksHaveDiffs : Type 0

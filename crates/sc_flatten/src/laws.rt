@@ -1,6 +1,6 @@
 //! Laws of the stock.
 
-ghost use Rattle.sc_flatten.specs.Laws.{StocksAreProblems, StocksStay, MeaningsAgree, SortsStay, StocksStaySorted, StocksStayPure, StocksHaveDiffs, StocksNameNoDiffs, LeastsAreOfClasses, ComponentsAscend};
+ghost use Rattle.sc_flatten.specs.Laws.{StocksAreProblems, StocksStay, MeaningsAgree, SortsStay, StocksStaySorted, StocksHavePlainForms, StocksFit, StocksArePosed, StocksHaveDiffs, StocksNameNoDiffs, LeastsAreOfClasses, ComponentsAscend};
 
 use sc_terms::{bank_meanings_fit, meanings_fit};
 
@@ -32,10 +32,18 @@ pub fn stocks_stay_sorted()
     ensures { StocksStaySorted }
 {}
 
-/// The stock of a bank without inequalities and Int terms has none.
-pub fn stocks_stay_pure()
-    ensures { StocksStayPure }
+/// The forms of a stock's inequalities and Int terms have Int constants and cards of sets alone, as a bank's have.
+pub fn stocks_have_plain_forms()
+    ensures { StocksHavePlainForms }
 {}
+
+/// Under an interpretation under which each number that an evaluation of the assertions meets fits 128 bits, so does each that one of the stock's nodes meets: each product of a form, each size in one, each Int term's value and each left side of an inequality.
+pub fn stocks_fit()
+    ensures { StocksFit }
+{
+    meanings_fit();
+    bank_meanings_fit();
+}
 
 /// The two sides of each equation of sets in a stock, where they differ, have their differing element there.
 pub fn stocks_have_diffs()
@@ -56,3 +64,11 @@ pub fn leasts_are_of_classes()
 pub fn components_ascend()
     ensures { ComponentsAscend }
 {}
+
+/// The stock of formulas of a bank may be decided, where the bank is well sorted, its constants have sorts that are known, and it has no inequality, no Int term and no card. So the stock is well sorted, sets that it says to be equal have their differing element, which nothing names, and each constant has one node, since the sort that is known for it tells which node that is. Under every interpretation a root is true exactly where its assertion is, and what fits 128 bits in the assertions does in the stock.
+pub fn stocks_are_posed()
+    ensures { StocksArePosed }
+{
+    meanings_fit();
+    bank_meanings_fit();
+}

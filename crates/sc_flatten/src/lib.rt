@@ -19,6 +19,7 @@ mod walk;
 
 pub use assemble::prepare;
 pub use laws::{
-    components_ascend, leasts_are_of_classes, meanings_agree, sorts_stay, stocks_are_problems,
-    stocks_have_diffs, stocks_name_no_diffs, stocks_stay, stocks_stay_pure, stocks_stay_sorted,
+    components_ascend, leasts_are_of_classes, meanings_agree, sorts_stay, stocks_are_posed,
+    stocks_are_problems, stocks_fit, stocks_have_diffs, stocks_have_plain_forms,
+    stocks_name_no_diffs, stocks_stay, stocks_stay_sorted,
 };

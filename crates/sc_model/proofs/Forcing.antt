@@ -20,7 +20,7 @@ use Rattle.sc_rules.specs.Pairs.{first_sign, equal_fact, same_set_fact}
 use Rattle.sc_rules.specs.Boolean.{sign, sign_of, all_have, some_has, agree, differ, own_sign, atom_with}
 use Rattle.sc_rules.specs.Steps.{one}
 use Rattle.sc_tree.specs.Events.{HasNoClash}
-use Rattle.sc_sorts.specs.Pure.{IsPureFormula}
+use Rattle.sc_sorts.specs.Posed.{IsPureFormula}
 use Rattle.sc_model.specs.Settled.{BearsOut, IsBorneOut}
 use Rattle.sc_model.specs.declared.steps.Due.{Due}
 use Rattle.sc_model.specs.declared.steps.Due.TheVariants.{Take, Split}

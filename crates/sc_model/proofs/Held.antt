@@ -23,7 +23,7 @@ use Rattle.sc_facts.specs.declared.fact.Fact.TheVariants as facts
 use Rattle.sc_facts.specs.Facts.{has}
 use Rattle.sc_sorts.specs.Sorts.{sorts_within, element_sort_of, element_sort, are_same, may_hold}
 use Rattle.sc_sorts.specs.Sorted.{Sorting, AreSorted, SetIsSorted, SortsMatch}
-use Rattle.sc_sorts.specs.Pure.{NamesSet, IsNoDiff, SetNamesNoDiff, NamesNoDiff}
+use Rattle.sc_sorts.specs.Posed.{NamesSet, IsNoDiff, SetNamesNoDiff, NamesNoDiff}
 use Rattle.sc_rules.specs.Pairs.{equal_fact}
 use Rattle.sc_rules.specs.Members.{within, within_of, op_sign, argument, single_of}
 use Rattle.sc_model.specs.Settled.{Stands, IsSettledBy}

@@ -26,7 +26,7 @@ use Rattle.sc_terms.specs.Values.{ValueMap}
 use Rattle.sc_facts.specs.declared.fact.Fact.{Fact}
 use Rattle.sc_rules.specs.Boolean.{sign}
 use Rattle.sc_sorts.specs.Sorts.{may_hold}
-use Rattle.sc_sorts.specs.Pure.{NamesFlag, NamesSet, NamesElement}
+use Rattle.sc_sorts.specs.Posed.{NamesFlag, NamesSet, NamesElement}
 use Rattle.sc_rules.specs.Members.{within}
 use Rattle.sc_model.specs.Modelling.{is_put, IsLabelIn, AreLabelsIn, labels_of, label_in, IsReadOff, HasValue, Fills, HasNumbers, IsSetOf, Gathers, IsModelOf}
 use Rattle.std.proofs.lemmas.Bool.{false≢true}

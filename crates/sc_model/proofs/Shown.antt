@@ -26,7 +26,7 @@ use Rattle.sc_terms.proofs.Ranges.{item_all}
 use Rattle.sc_facts.specs.declared.fact.Fact.{Fact}
 use Rattle.sc_rules.specs.Boolean.{sign}
 use Rattle.sc_sorts.specs.Sorted.{SortsMatch}
-use Rattle.sc_sorts.specs.Pure.{NamesFlag, NamesSet, NamesElement, IsPure, IsPureFormula, IsPureElement, IsNoDiff, NamesNoDiff}
+use Rattle.sc_sorts.specs.Posed.{NamesFlag, NamesSet, NamesElement, IsPure, IsPureFormula, IsPureElement, IsNoDiff, NamesNoDiff}
 use Rattle.sc_model.specs.Settled.{IsSettledBy}
 use Rattle.sc_model.specs.Modelling.{AreLabelsIn, IsReadOff, IsModelOf, ReadOffValuesShow, SettledPathsHaveModels}
 use Rattle.sc_model.proofs.Paths.{item_there}

@@ -24,7 +24,7 @@ use Rattle.sc_facts.specs.declared.name.FactName.TheVariants as names
 use Rattle.sc_facts.specs.Facts.{has}
 use Rattle.sc_sorts.specs.Sorts.{may_hold}
 use Rattle.sc_sorts.specs.Sorted.{Sorting, AreSorted, FormulaIsSorted, SortsMatch}
-use Rattle.sc_sorts.specs.Pure.{NamesFlag, IsPureFormula, IsNoDiff, FormulaNamesNoDiff, NamesNoDiff}
+use Rattle.sc_sorts.specs.Posed.{NamesFlag, IsPureFormula, IsNoDiff, FormulaNamesNoDiff, NamesNoDiff}
 use Rattle.sc_rules.specs.Pairs.{first_sign, ordered, same_set, same_set_fact, equal}
 use Rattle.sc_rules.specs.Boolean.{sign, all_have, some_has, agree, differ}
 use Rattle.sc_rules.specs.Members.{within, within_of}

@@ -21,7 +21,7 @@ use Rattle.sc_facts.specs.declared.name.FactName.TheVariants as names
 use Rattle.sc_facts.specs.Facts.{has}
 use Rattle.sc_sorts.specs.Sorts.{may_hold}
 use Rattle.sc_sorts.specs.Sorted.{Sorting, AreSorted, SortsMatch}
-use Rattle.sc_sorts.specs.Pure.{IsPure}
+use Rattle.sc_sorts.specs.Posed.{IsPure}
 use Rattle.sc_rules.specs.declared.step.PlainStep.{PlainStep}
 use Rattle.sc_rules.specs.declared.step.PlainStep.TheVariants.{EqRefl, SeqRefl, Differ, Cut}
 use Rattle.sc_rules.specs.Pairs.{first_sign, ordered, equal, same_set}

@@ -6,7 +6,7 @@ use Rattle.sc_terms.specs.declared.nodes.Formula.TheVariants as formulas
 use Rattle.sc_terms.specs.declared.problem.Parts.{Parts}
 use Rattle.sc_terms.specs.Lookup.{formula_at, is_listed}
 use Rattle.sc_terms.specs.Conditions.{IsIn, FormulaIn}
-use Rattle.sc_sorts.specs.Pure.{IsPureFormula}
+use Rattle.sc_sorts.specs.Posed.{IsPureFormula}
 use Rattle.sc_facts.specs.declared.fact.Fact.{Fact}
 use Rattle.sc_facts.specs.declared.fact.Fact.TheVariants as facts
 use Rattle.sc_facts.specs.Facts.{has}

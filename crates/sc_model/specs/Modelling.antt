@@ -17,7 +17,7 @@ use Rattle.sc_facts.specs.declared.fact.Fact.TheVariants as facts
 use Rattle.sc_facts.specs.Same.{same_fact}
 use Rattle.sc_facts.specs.Facts.{has}
 use Rattle.sc_sorts.specs.Sorts.{may_hold}
-use Rattle.sc_sorts.specs.Pure.{NamesFlag, NamesSet, NamesElement, IsPure}
+use Rattle.sc_sorts.specs.Posed.{NamesFlag, NamesSet, NamesElement, IsPure}
 use Rattle.sc_rules.specs.Boolean.{sign}
 use Rattle.sc_rules.specs.Members.{within}
 use Rattle.sc_model.specs.Settled.{IsSettledBy}

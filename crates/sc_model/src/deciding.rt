@@ -2,7 +2,7 @@
 
 ghost use Rattle.std.specs.Prelude.{◌≡◌, true, IfOk, MatchOption};
 ghost use Rattle.std.specs.List.{AllByRecursion};
-ghost use Rattle.sc_sorts.specs.Pure.{IsPure};
+ghost use Rattle.sc_sorts.specs.Posed.{IsPure};
 ghost use Rattle.sc_rules.specs.Boolean.{sign};
 ghost use Rattle.sc_tree.specs.Events.{HasNoClash};
 ghost use Rattle.sc_model.specs.Settled.{IsSettledBy};

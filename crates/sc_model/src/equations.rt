@@ -3,7 +3,7 @@
 ghost use Rattle.std.specs.Prelude.{◌≡◌, ◌&&◌, ℕ, true, false, length, IfOk, MatchOption};
 ghost use Rattle.sc_terms.specs.Conditions.{IsIn};
 ghost use Rattle.sc_sorts.specs.Sorts as sorts;
-ghost use Rattle.sc_sorts.specs.Pure.{IsPure};
+ghost use Rattle.sc_sorts.specs.Posed.{IsPure};
 ghost use Rattle.sc_rules.specs.Pairs.{same_set};
 ghost use Rattle.sc_tree.specs.Events.{HasNoClash};
 ghost use Rattle.sc_model.specs.Settled.{MovesStand, AreToldApart};

@@ -6,7 +6,7 @@ ghost use Rattle.std.specs.FinMap as map;
 ghost use Rattle.sc_base.specs.Integers.{without, in_order};
 ghost use Rattle.sc_terms.specs.Conditions.{IsIn};
 ghost use Rattle.sc_terms.specs.Values.{Shows};
-ghost use Rattle.sc_sorts.specs.Pure.{NamesFlag, NamesSet, NamesElement, IsPure};
+ghost use Rattle.sc_sorts.specs.Posed.{NamesFlag, NamesSet, NamesElement, IsPure};
 ghost use Rattle.sc_model.specs.Settled.{IsSettledBy};
 ghost use Rattle.sc_model.specs.Modelling as spec;
 ghost use Rattle.sc_model.specs.Modelling.{label_in, HasValue, IsModelOf, Fills, Gathers, Gathered, HasNumbers, IsSetOf};

@@ -4,7 +4,7 @@ ghost use Rattle.std.specs.Prelude.{◌≡◌, ◌≢◌, ℕ, None, Some, lengt
 ghost use Rattle.sc_terms.specs.Conditions.{IsIn};
 ghost use Rattle.sc_rules.specs.Boolean as rules;
 ghost use Rattle.sc_rules.specs.Boolean.{own_sign};
-ghost use Rattle.sc_sorts.specs.Pure.{IsPure};
+ghost use Rattle.sc_sorts.specs.Posed.{IsPure};
 ghost use Rattle.sc_tree.specs.Events.{HasNoClash};
 ghost use Rattle.sc_model.specs.Settled.{BearsOut, IsBorneOut};
 ghost use Rattle.sc_model.specs.Deciding as spec;

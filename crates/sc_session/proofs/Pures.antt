@@ -20,7 +20,7 @@ use Rattle.sc_terms.specs.declared.problem.Parts.{Parts}
 use Rattle.sc_terms.specs.Bank.{IsBank, HasSorts, NodeHasSorts, IsSetSort, IsDeclaredSort, is_formula, is_set, is_element}
 use Rattle.sc_terms.specs.Same.{same_node, same_node-Decides}
 use Rattle.sc_sorts.specs.Sorted.{IsWellSortedBank}
-use Rattle.sc_sorts.specs.Pure.{IsPureBank, NamesFlag, NamesSet, NamesElement, HasOneNodeEach, IsPure}
+use Rattle.sc_sorts.specs.Posed.{IsPureBank, NamesFlag, NamesSet, NamesElement, HasOneNodeEach, IsPure}
 use Rattle.sc_flatten.specs.Walk.{met, order_of}
 use Rattle.sc_flatten.specs.Classes.{pairs_of, diff_of_pair}
 use Rattle.sc_flatten.specs.Stock.{Numbering, numbering_of, formula_in, set_in, element_in, formula_by, set_by, element_by, walked_by, stock}

@@ -21,7 +21,7 @@ use Rattle.sc_stack.specs.declared.stack.StackError.{StackError}
 use Rattle.sc_stack.specs.declared.stack.StackError.TheVariants as errors
 use Rattle.sc_terms.specs.Bank.{Begins, HasSorts, NodeHasSorts, FormulaHasSorts, SetHasSorts, ElementHasSorts, FormHasSorts, AtomHasSorts, IsFormulaOf, is_formula}
 use Rattle.sc_sorts.specs.Sorted.{NodeIsSorted, IsWellSortedBank}
-use Rattle.sc_sorts.specs.Pure.{IsPureBank}
+use Rattle.sc_sorts.specs.Posed.{IsPureBank}
 use Rattle.sc_stack.specs.declared.stack.Constant.{Constant}
 use Rattle.sc_stack.specs.Names.{Names, Level, no_names, Declares, on_last, sorts_of, assertions_in_force, with_sort, with_constant, with_assertion}
 use Rattle.sc_session.specs.States.{IsSorted}

@@ -4,7 +4,7 @@ use Rattle.std.specs.List.{AllByRecursion}
 use Rattle.sc_terms.specs.declared.nodes.Node.{Node}
 use Rattle.sc_terms.specs.Bank.{IsBank, IsFormulaOf, HasSorts}
 use Rattle.sc_sorts.specs.Sorted.{IsWellSortedBank}
-use Rattle.sc_sorts.specs.Pure.{IsPureBank}
+use Rattle.sc_sorts.specs.Posed.{IsPureBank}
 use Rattle.sc_stack.specs.Names.{Names, IsNames, no_names, sorts_of, assertions_in_force}
 use Rattle.sc_deriv.specs.declared.derivation.Derivation.{Derivation}
 use Rattle.sc_tree.specs.declared.verdict.Verdict.{Verdict}

@@ -5,7 +5,7 @@ ghost use Rattle.sc_terms.specs.declared.nodes.Node.{Node};
 ghost use Rattle.sc_terms.specs.declared.nodes.Sort.{Sort};
 ghost use Rattle.sc_terms.specs.Bank.{IsBank, HasSorts};
 ghost use Rattle.sc_sorts.specs.Sorted.{IsWellSortedBank};
-ghost use Rattle.sc_sorts.specs.Pure.{IsPureBank, IsPure, IsOfBank};
+ghost use Rattle.sc_sorts.specs.Posed.{IsPureBank, IsPure, IsOfBank};
 ghost use Rattle.sc_flatten.specs.Laws.{AreFormulasOf};
 ghost use Rattle.sc_flatten.specs.Stock.{stock};
 

@@ -1,4 +1,4 @@
 pub mod Sorts
 pub mod Sorted
-pub mod Pure
+pub mod Posed
 pub mod Walk

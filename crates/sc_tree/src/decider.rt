@@ -1,7 +1,7 @@
 //! What decides problems.
 
 ghost use Rattle.std.specs.Prelude.{◌≤◌, ◌^◌, IfOk};
-ghost use Rattle.sc_sorts.specs.Pure.{IsPure, IsOfBank};
+ghost use Rattle.sc_sorts.specs.Posed.{IsPure, IsOfBank};
 ghost use Rattle.sc_tree.specs.Verdicts.{IsJust};
 
 use crate::verdict::Verdict;

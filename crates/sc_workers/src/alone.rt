@@ -1,7 +1,7 @@
 //! Deciding with one worker.
 
 ghost use Rattle.std.specs.Prelude.{◌≡◌, ◌≤◌, ◌^◌, ◌&&◌, true, IfOk, OnOk};
-ghost use Rattle.sc_sorts.specs.Pure.{IsPure, IsOfBank};
+ghost use Rattle.sc_sorts.specs.Posed.{IsPure, IsOfBank};
 ghost use Rattle.sc_tree.specs.Machine.{state, has_answer};
 ghost use Rattle.sc_tree.specs.Verdicts.{IsJust};
 ghost use Rattle.sc_workers.specs.Seats as spec;

@@ -1,5 +1,5 @@
 use Rattle.std.proofs.Common.{arith}
-use Rattle.sc_sorts.specs.Pure.{NamesElement}
+use Rattle.sc_sorts.specs.Posed.{NamesElement}
 use Rattle.sc_model.specs.Modelling.{label_in}
 use Rattle.sc_model.proofs.Reading.{fills_on, there_next, item_low}
 use Rattle.sc_model.proofs.model.put_elements.Goals as goal

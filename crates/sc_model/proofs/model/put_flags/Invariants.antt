@@ -1,5 +1,5 @@
 use Rattle.std.proofs.Common.{ℕ, ◌≤◌}
-use Rattle.sc_sorts.specs.Pure.{NamesFlag}
+use Rattle.sc_sorts.specs.Posed.{NamesFlag}
 use Rattle.sc_model.specs.Modelling.{HasValue, Fills, label_in}
 use Rattle.sc_model.proofs.model.put_flags.Given as goal
 

@@ -2,7 +2,7 @@ use Rattle.std.proofs.Common.{subst, sym}
 use Rattle.std.specs.List.{AllByRecursion}
 use Rattle.sc_terms.specs.Bank.{IsFormulaOf}
 use Rattle.sc_stack.specs.Names.{sorts_of}
-use Rattle.sc_sorts.specs.Pure.{IsPure, IsOfBank}
+use Rattle.sc_sorts.specs.Posed.{IsPure, IsOfBank}
 use Rattle.sc_session.specs.States.{state}
 use Rattle.sc_session.proofs.Doing.{is_checked}
 use Rattle.sc_session.proofs.session.Session.check_sat.Goals as goal
