@@ -9,8 +9,8 @@ mod SetLaws
 mod Worths
 mod DeclaredSorts
 mod KnownSorts
-mod Purely
 mod SortedBanks
 mod SortedNodes
 mod SortedTerms
+mod Keeping
 mod NamedFaults

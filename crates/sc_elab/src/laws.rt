@@ -8,8 +8,7 @@ ghost use Rattle.sc_terms.specs.declared.nodes.Sort.{Sort};
 ghost use Rattle.sc_terms.specs.Bank.{IsBank, Begins, IsFormulaOf, HasSorts};
 ghost use Rattle.sc_terms.specs.BankValues.{bank_meaning};
 ghost use Rattle.sc_terms.specs.Meaning.{Interpretation, IsInterpretation};
-ghost use Rattle.sc_sorts.specs.Posed.{IsPureBank};
-ghost use Rattle.sc_sorts.specs.Sorted.{IsWellSortedBank};
+ghost use Rattle.sc_sorts.specs.Posed.{IsPosedBank};
 ghost use Rattle.sc_stack.specs.declared.stack.Constant.{Constant};
 ghost use Rattle.sc_stack.specs.Names.{Names, IsSort, sorts_of, with_sort, with_constant};
 ghost use Rattle.sc_elab.specs.States.{State, Done, Fault};
@@ -18,7 +17,7 @@ ghost use Rattle.sc_elab.specs.Sorts.{sort_of};
 ghost use Rattle.sc_elab.specs.Faults.{is_term_fault, is_sort_fault};
 ghost use Rattle.sc_elab.specs.Value.{Truth, truth, term_value};
 
-use sc_stack::names_have_numbers;
+use sc_stack::{constants_have_sorts, names_have_numbers};
 use sc_terms::{bank_grows, bank_meanings_fit, bank_with_node, meanings_stay};
 
 /// A term's core formula keeps its meaning: under every interpretation the term is worth the truth value that the bank gives the formula.
@@ -42,16 +41,16 @@ pub fn elaboration_grows_bank()
     meanings_stay();
     bank_with_node();
     bank_grows();
+    constants_have_sorts();
 }
 
-/// A bank without integers stays so behind the elaboration of a term, whether this makes a formula or ends at a fault, and a well-sorted bank stays well sorted.
-pub fn elaboration_stays_pure()
-    ensures pure_done { (t : Shape) (s : State) (n : ℕ) (bank : List Node) → IsPureBank s.bank → core t s ≡ Done n bank → IsPureBank bank }
-    ensures pure_fault { (t : Shape) (s : State) (code : Code) (bank : List Node) → IsPureBank s.bank → core t s ≡ Fault code bank → IsPureBank bank }
-    ensures sorted_done { (t : Shape) (s : State) (n : ℕ) (bank : List Node) → IsBank s.bank → IsWellSortedBank s.bank → core t s ≡ Done n bank → IsWellSortedBank bank }
-    ensures sorted_fault { (t : Shape) (s : State) (code : Code) (bank : List Node) → IsBank s.bank → IsWellSortedBank s.bank → core t s ≡ Fault code bank → IsWellSortedBank bank }
+/// A bank whose formulas may be posed stays one behind the elaboration of a term, whether this makes a formula or ends at a fault: it stays well sorted, its constants have their sorts, and no inequality, Int term or card is put into it.
+pub fn elaboration_keeps_posed()
+    ensures done { (t : Shape) (s : State) (n : ℕ) (bank : List Node) → IsBank s.bank → IsPosedBank (sorts_of s.names) s.bank → core t s ≡ Done n bank → IsPosedBank (sorts_of s.names) bank }
+    ensures fault { (t : Shape) (s : State) (code : Code) (bank : List Node) → IsBank s.bank → IsPosedBank (sorts_of s.names) s.bank → core t s ≡ Fault code bank → IsPosedBank (sorts_of s.names) bank }
 {
     bank_with_node();
+    constants_have_sorts();
 }
 
 /// A sort that is read is built in, or made of a sort that was declared, so that constants of it may be.

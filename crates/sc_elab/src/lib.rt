@@ -21,7 +21,7 @@ pub use elab::elaborate;
 pub use error::ElabError;
 pub use laws::{
     declarations_keep_sorts, elaboration_grows_bank, elaboration_keeps_meaning,
-    elaboration_stays_pure, faults_are_named, read_sorts_are_declared,
+    elaboration_keeps_posed, faults_are_named, read_sorts_are_declared,
 };
 pub use sorts::read_sort;
 

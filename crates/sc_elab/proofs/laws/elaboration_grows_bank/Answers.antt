@@ -1,4 +1,4 @@
-use Rattle.sc_elab.proofs.Purely.{fault_grows}
+use Rattle.sc_elab.proofs.Keeping.{fault_grows}
 use Rattle.sc_elab.proofs.Standing.{BankLaws}
 use Rattle.sc_elab.proofs.Worths.{core_grows, core_stays}
 use Rattle.sc_elab.proofs.laws.elaboration_grows_bank.Goals as goal
@@ -34,4 +34,4 @@ returns-clause-stays c =
     core_stays laws
 
 pub returns-clause-fault : goal.returns-clause-fault
-returns-clause-fault c = fault_grows
+returns-clause-fault c = fault_grows c.constants_have_sorts.ensures
