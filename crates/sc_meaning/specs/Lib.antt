@@ -1,5 +1,4 @@
 pub mod Results
-pub mod Totals
 pub mod Worths
 pub mod Under
 pub mod Marks
