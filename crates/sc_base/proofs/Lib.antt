@@ -4,3 +4,5 @@ pub mod Places
 pub mod Integers
 pub mod Members
 pub mod Copies
+pub mod Products
+pub mod Turns

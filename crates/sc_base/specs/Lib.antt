@@ -2,3 +2,4 @@ pub mod Options
 pub mod Numbered
 pub mod Integers
 pub mod Spans
+pub mod Totals

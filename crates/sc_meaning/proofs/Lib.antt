@@ -8,5 +8,4 @@ pub mod Reach
 pub mod Sets
 pub mod Sums
 pub mod Tops
-pub mod Turns
 pub mod Whole

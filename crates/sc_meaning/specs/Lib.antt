@@ -1,5 +1,4 @@
 pub mod Results
-pub mod Totals
 pub mod Worths
 pub mod Marks
 pub mod Pass

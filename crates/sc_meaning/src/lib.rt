@@ -12,7 +12,6 @@ mod node;
 mod pass;
 #[cfg(test)]
 mod tests;
-mod total;
 mod values;
 
 pub use calls::{all_true, eval_bool, eval_int, eval_set};

@@ -6,6 +6,7 @@ ghost use Rattle.std.specs.Option.{SomeIff};
 ghost use Rattle.std.specs.List.{list_all, list_any, AllByRecursion};
 ghost use Rattle.sc_base.specs.Integers.{in_order, has_element, without};
 ghost use Rattle.sc_base.specs.Numbered.{item_at};
+ghost use Rattle.sc_base.specs.Totals.{amount};
 ghost use Rattle.sc_terms.specs.BankValues.{no_parts};
 ghost use Rattle.sc_terms.specs.Meaning.{same_elements, atom_value, form_value, members_of, element_of, truth_of};
 ghost use Rattle.sc_terms.specs.Values.{interpretation_of, TermFits, FormulaFits, ElementFits};
@@ -16,8 +17,8 @@ ghost use Rattle.sc_terms.specs.declared.nodes.Node.TheVariants as nodes;
 
 use crate::constants;
 use crate::error::EvalError;
-use crate::total::Total;
 use crate::values::{Values, Worth};
+use sc_base::Total;
 use sc_runs::{Memory, Runs};
 use sc_terms::{Affine, Atom, Element, Formula, Interp, Node, Row, SetTerm};
 use std::alloc::Global;
@@ -60,6 +61,16 @@ fn term(values: &Values, interp: &Interp, term: &(i128, Atom)) -> Option<i128>
     term.0.checked_mul(atom(values, interp, &term.1)?)
 }
 
+/// The sum, or `Wide` exactly where it passes 128 bits.
+fn whole(total: Total) -> Result<i128, EvalError>
+    ensures { Evaluates (FitsSigned w128 (amount total)) (amount total) result }
+{
+    match total.whole() {
+        Some(sum) => Ok(sum),
+        None => Err(EvalError::Wide),
+    }
+}
+
 /// The sum of the products of the terms and of a constant.
 fn sum(
     values: &Values,
@@ -78,7 +89,7 @@ fn sum(
         };
         total = total.plus(product);
     }
-    total.plus(constant).whole()
+    whole(total.plus(constant))
 }
 
 /// Whether all of the formulas are true.

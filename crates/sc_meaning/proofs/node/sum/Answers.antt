@@ -7,7 +7,7 @@ use Rattle.sc_terms.specs.declared.atoms.Atom.{Atom}
 use Rattle.sc_terms.specs.BankValues.{no_parts}
 use Rattle.sc_terms.specs.Meaning.{Valuation, atom_value}
 use Rattle.sc_terms.specs.Values.{interpretation_of, TermFits}
-use Rattle.sc_meaning.specs.Totals.{amount}
+use Rattle.sc_base.specs.Totals.{amount}
 use Rattle.sc_meaning.specs.Worths.{found}
 use Rattle.sc_meaning.proofs.Sums.{sum_next, fits_next, all_there, all_added, with_condition}
 use Rattle.sc_meaning.proofs.node.sum.Goals as goal

@@ -4,7 +4,7 @@ use Rattle.std.specs.List.{AllByRecursion}
 use Rattle.sc_terms.specs.BankValues.{no_parts}
 use Rattle.sc_terms.specs.Meaning.{form_value}
 use Rattle.sc_terms.specs.Values.{interpretation_of, TermFits}
-use Rattle.sc_meaning.specs.Totals.{amount}
+use Rattle.sc_base.specs.Totals.{amount}
 use Rattle.sc_meaning.specs.Worths.{found}
 use Rattle.sc_meaning.proofs.node.sum.Given as goal
 

@@ -2,8 +2,8 @@
 use Rattle.std.proofs.Common.{◌≡◌, ◌^◌, zero, suc, ℤ, pos, negsuc, ◌+ℤ◌, ◌-ℤ◌, ◌*ℤ◌, arith, refl, ap, ◌∙◌}
 use Rattle.std.proofs.lemmas.Int.{ints}
 use Rattle.std.proofs.Math.IntN.{suc_ℤ, pred_ℤ, suc_ℤ-*ℤ, pred_ℤ-*ℤ}
-use Rattle.sc_meaning.specs.declared.total.Total.{Total}
-use Rattle.sc_meaning.specs.Totals.{amount}
+use Rattle.sc_base.specs.declared.total.Total.{Total}
+use Rattle.sc_base.specs.Totals.{amount}
 
 plus_one : (m : ℤ) → m +ℤ pos 1 ≡ suc_ℤ m
 plus_one (pos n) = omega (arith, ints)

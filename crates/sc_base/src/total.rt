@@ -2,13 +2,11 @@
 
 ghost use Rattle.std.specs.Prelude.{◌≡◌, ◌<◌, ◌≤◌, ◌+◌, ◌^◌, pos, ◌+ℤ◌, ◌-ℤ◌, ◌≤ℤ◌, ◌<ℤ◌, unsigned_abs, FitsSigned};
 ghost use Rattle.std.specs.Int.{w128};
+ghost use Rattle.std.specs.Option.{SomeIff};
 ghost use Rattle.sc_base.specs.Integers.{lowest};
-ghost use Rattle.sc_meaning.specs.Results.{Evaluates};
-ghost use Rattle.sc_meaning.specs.Totals.{amount};
+ghost use Rattle.sc_base.specs.Totals.{amount};
 
-use crate::error::EvalError;
-
-/// A rest, and how often 2^128 is to be added to it.
+/// A sum of numbers of 128 bits that may itself have more: a rest, and how often 2^128 is to be added to it.
 #[derive(Clone, Copy)]
 pub struct Total {
     pub rest: i128,
@@ -85,14 +83,14 @@ impl Total {
         }
     }
 
-    /// The sum, or `Wide` exactly where it passes 128 bits.
-    pub fn whole(self) -> Result<i128, EvalError>
-        ensures { Evaluates (FitsSigned w128 (amount self)) (amount self) result }
+    /// The sum, or nothing exactly where it passes 128 bits.
+    pub fn whole(self) -> Option<i128>
+        ensures { SomeIff result (FitsSigned w128 (amount self)) (amount self) }
     {
         if self.turns == 0 {
-            Ok(self.rest)
+            Some(self.rest)
         } else {
-            Err(EvalError::Wide)
+            None
         }
     }
 }
