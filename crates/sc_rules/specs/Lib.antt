@@ -4,3 +4,4 @@ pub mod Boolean
 pub mod Members
 pub mod Steps
 pub mod Example
+pub mod Needs

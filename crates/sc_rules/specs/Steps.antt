@@ -27,6 +27,11 @@ lists_of (Two first second) = first ∷ second ∷ []
 abbrev pub one : Option Fact → Option (List (List Fact))
 one fact = fact >>= λ f. Some ((f ∷ []) ∷ [])
 
+-- the one fact of the one branch
+abbrev pub alone : Option (List (List Fact)) → Option Fact
+alone (Some ((fact ∷ []) ∷ [])) = Some fact
+alone _ = None
+
 -- whether it is the name of a fact on things of the problem: they are there and of matching sorts, and the first number of a pair is at most the second
 abbrev pub names_fact : Parts → FactName → Bool
 names_fact problem (names.Sign f) = is_some (formula_at problem f)

@@ -8,7 +8,7 @@ use sc_base::item_at;
 use sc_facts::{Fact, Path};
 use sc_terms::{Formula, Problem};
 
-fn has_sign(path: &Path, formula: u32, sign: bool) -> bool
+pub fn has_sign(path: &Path, formula: u32, sign: bool) -> bool
     ensures { result ≡ spec.sign path.now.facts formula sign }
 {
     path.has(&Fact::Sign(formula, sign))
@@ -24,7 +24,7 @@ pub fn sign_of(path: &Path, formula: u32) -> Option<bool>
     )
 }
 
-fn all_have(path: &Path, formulas: &[u32], sign: bool) -> bool
+pub fn all_have(path: &Path, formulas: &[u32], sign: bool) -> bool
     ensures { result ≡ spec.all_have path.now.facts formulas.now sign }
 {
     formulas
@@ -76,7 +76,7 @@ pub fn own_sign(path: &Path, node: &Formula) -> Option<bool>
 }
 
 /// The part with a number that counts from 1.
-fn part_at(node: &Formula, place: u32) -> Option<u32>
+pub fn part_at(node: &Formula, place: u32) -> Option<u32>
     ensures { result ≡ spec.part_at node.now place }
 {
     match node {
@@ -88,7 +88,7 @@ fn part_at(node: &Formula, place: u32) -> Option<u32>
     }
 }
 
-fn others_have(path: &Path, parts: &[u32], place: usize, sign: bool) -> bool
+pub fn others_have(path: &Path, parts: &[u32], place: usize, sign: bool) -> bool
     requires first { 1 ≤ place }
     requires last { place ≤ length parts.now }
     ensures { result ≡ spec.others_have path.now.facts parts.now place sign }
@@ -157,7 +157,7 @@ pub fn all_fact(problem: &Problem, path: &Path, number: u32, place: u32) -> Opti
 }
 
 /// The fact that an atomic formula states.
-fn atom_with(node: &Formula, sign: bool) -> Option<Fact>
+pub fn atom_with(node: &Formula, sign: bool) -> Option<Fact>
     ensures { result ≡ spec.atom_with node.now sign }
 {
     match node {

@@ -131,7 +131,7 @@ pub fn op_fact(problem: &Problem, path: &Path, e: u32, n: u32, place: u32) -> Op
 }
 
 /// The element of a set of one.
-fn single_of(problem: &Problem, set: u32) -> Option<u32>
+pub fn single_of(problem: &Problem, set: u32) -> Option<u32>
     ensures { result ≡ spec.single_of (set_at problem.now set) }
 {
     match problem.find_set(set)? {

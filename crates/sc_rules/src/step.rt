@@ -184,6 +184,31 @@ pub fn apply(
     }
 }
 
+/// The one fact that a step concludes at a path, in one branch; nothing where it does not apply or has two branches. It takes no memory, so it serves to look at what a step would bring before it is taken.
+#[tactic(auto, using(crate::proofs::Alone::alone_one, crate::proofs::Alone::alone_cut, crate::proofs::Alone::alone_differ))]
+pub fn conclusion(problem: &Problem, path: &Path, step: &PlainStep) -> Option<Fact>
+    ensures { result ≡ spec.alone (branches problem.now path.now.facts step.now) }
+{
+    match step {
+        PlainStep::Atom(formula) => atom_fact(problem, path, *formula),
+        PlainStep::All(formula, place) => all_fact(problem, path, *formula, *place),
+        PlainStep::Unit(formula, place) => unit_fact(problem, path, *formula, *place),
+        PlainStep::Cut(_) => None,
+        PlainStep::Op(e, s, place) => op_fact(problem, path, *e, *s, *place),
+        PlainStep::Single(e, s) => into_single(problem, path, *e, *s),
+        PlainStep::Unsingle(e, s) => from_single(problem, path, *e, *s),
+        PlainStep::Carry(e, f, s) => carry_fact(path, *e, *f, *s),
+        PlainStep::Apart(e, f, s) => apart_fact(path, *e, *f, *s),
+        PlainStep::Move(e, s, t) => move_fact(path, *e, *s, *t),
+        PlainStep::SetApart(e, s, t) => set_apart_fact(path, *e, *s, *t),
+        PlainStep::EqRefl(e) => reflexive_fact(problem, *e),
+        PlainStep::EqStep(e, f, g) => equal_step_fact(path, *e, *f, *g),
+        PlainStep::SeqRefl(s) => set_reflexive_fact(problem, *s),
+        PlainStep::SeqStep(s, t, u) => set_step_fact(path, *s, *t, *u),
+        PlainStep::Differ(_, _) => None,
+    }
+}
+
 /// One branch with one fact, where there is one.
 fn one(alloc: Global, fact: Option<Fact>) -> Result<Branches, StepError>
     ensures { Gives result (spec.one fact) }
@@ -195,7 +220,7 @@ fn one(alloc: Global, fact: Option<Fact>) -> Result<Branches, StepError>
 }
 
 /// Whether it is the name of a fact on things of the problem, of matching sorts, with the numbers of a pair in order.
-fn names_fact(problem: &Problem, name: &FactName) -> bool
+pub fn names_fact(problem: &Problem, name: &FactName) -> bool
     ensures { result ≡ spec.names_fact problem.now name.now }
 {
     match name {
