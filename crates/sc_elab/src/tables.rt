@@ -260,48 +260,6 @@ pub const ELEMENTS: [(&str, &str); 26] = [
     ("(set.card (set.union A z))", "E8 at 0"),
 ];
 
-/// The nodes of the bank behind a term, in order.
-pub const NODES: [(&str, &str); 11] = [
-    ("(= x y)", "true, element 6, element 7, eq 2 3"),
-    ("(= A B A)", "true, set 9, set 10, same 2 3, same 3 2, and"),
-    (
-        "(distinct x y w)",
-        "true, element 6, element 7, element 13, eq 2 3, not 5, eq 2 4, not 7, eq 3 4, not 9, and",
-    ),
-    (
-        "(distinct A B C)",
-        "true, set 9, set 10, set 11, same 2 3, not 5, same 2 4, not 7, same 3 4, not 9, and",
-    ),
-    (
-        "(set.subset A B)",
-        "true, set 9, set 10, minus 2 3, empty, same 4 5",
-    ),
-    (
-        "(= (set.union A B C) A)",
-        "true, set 9, set 10, set 11, union 2 3, union 5 4, same 6 2",
-    ),
-    (
-        "(= (set.inter A B C) A)",
-        "true, set 9, set 10, set 11, inter 2 3, inter 5 4, same 6 2",
-    ),
-    (
-        "(= (set.minus A B) A)",
-        "true, set 9, set 10, minus 2 3, same 4 2",
-    ),
-    (
-        "(= (set.insert x y A) A)",
-        "true, element 6, element 7, set 9, single 2, single 3, union 6 4, union 5 7, same 8 4",
-    ),
-    (
-        "(= (as set.empty (Set U)) A)",
-        "true, empty, set 9, same 2 3",
-    ),
-    (
-        "(set.member x (set.singleton y))",
-        "true, element 6, element 7, single 3, in 2 4",
-    ),
-];
-
 /// Sorts that have a fault.
 pub const SORTS: [(&str, &str); 18] = [
     ("Int ", "E8"),

@@ -1,6 +1,6 @@
 //! Tests of the table, with ample memory.
 
-ghost use Rattle.std.specs.Prelude.{◌≡◌, [], ◌∷◌, IfOk, OnOk};
+ghost use Rattle.std.specs.Prelude.{◌≡◌, IfOk};
 ghost use Rattle.sc_terms.specs.Literals.{IsOfLiterals, singles_from};
 ghost use Rattle.sc_member.specs.Memberships.{equations};
 
@@ -53,23 +53,9 @@ fn problem_of_two(alloc: Global) -> Result<Problem, Memory> {
     Ok(Problem::from_parts(parts))
 }
 
-/// Says that two elements are equal, where the classes have both.
-#[tactic(auto, using(crate::proofs::Equations::equations_more))]
-fn say_equal(table: &mut MemberTable, classes: &mut Classes, e: u32, f: u32) -> Result<(), Memory>
-    requires { classes.old.pairs ≡ equations table.old.facts }
-    ensures tied { OnOk result (classes.new.pairs ≡ equations table.new.facts) }
-    ensures problem { table.new.problem ≡ table.old.problem }
-{
-    if e > classes.count() || f > classes.count() {
-        return Err(Memory);
-    }
-    classes.merge(e, f, 0)?;
-    table.add(&Fact::Eq(e, f, true))
-}
-
-/// What is forced once element 1 is in set 1.
-#[tactic(auto, using(crate::proofs::Equations::equations_member))]
-fn forced_by_member(
+/// What is forced once two sets are equal and element 1 is in the first.
+#[tactic(auto, using(crate::proofs::Equations::equations_sets, crate::proofs::Equations::equations_member))]
+fn forced_by_facts(
     table: &mut MemberTable,
     alloc: Global,
     problem: &Problem,
@@ -78,48 +64,22 @@ fn forced_by_member(
     requires problem { problem.now ≡ table.old.problem }
     requires tied { classes.now.pairs ≡ equations table.old.facts }
 {
+    table.add(&Fact::EqSet(1, 2, true))?;
     table.add(&Fact::Member(1, 1, true))?;
     table.forced(alloc, problem, classes)
 }
 
-/// What is forced where two elements are equal.
 #[tactic(auto, using(crate::proofs::Equations::equations_roots))]
-fn carried(alloc: Global, problem: &Problem) -> Result<Option<PlainStep>, Memory> {
-    let mut classes = Classes::new(alloc, problem)?;
-    let mut table = MemberTable::new(alloc, problem)?;
-    say_equal(&mut table, &mut classes, 1, 2)?;
-    forced_by_member(&mut table, alloc, problem, &classes)
-}
-
-/// What is forced where two sets are equal, or differ.
-#[tactic(auto, using(crate::proofs::Equations::equations_roots, crate::proofs::Equations::equations_sets))]
-fn moved(alloc: Global, problem: &Problem, sign: bool) -> Result<Option<PlainStep>, Memory> {
+fn moved(alloc: Global, problem: &Problem) -> Result<Option<PlainStep>, Memory> {
     let classes = Classes::new(alloc, problem)?;
     let mut table = MemberTable::new(alloc, problem)?;
-    table.add(&Fact::EqSet(1, 2, sign))?;
-    forced_by_member(&mut table, alloc, problem, &classes)
-}
-
-#[test]
-fn memberships_are_carried_on(rt: HostRuntime) -> Result<(), Fail> {
-    let problem = problem_of_two(rt.alloc())?;
-    let found = carried(rt.alloc(), &problem)?;
-    assert!(rt; found == Some(PlainStep::Carry(1, 2, 1)));
-    Ok(())
+    forced_by_facts(&mut table, alloc, problem, &classes)
 }
 
 #[test]
 fn memberships_are_moved_on(rt: HostRuntime) -> Result<(), Fail> {
     let problem = problem_of_two(rt.alloc())?;
-    let found = moved(rt.alloc(), &problem, true)?;
+    let found = moved(rt.alloc(), &problem)?;
     assert!(rt; found == Some(PlainStep::Move(1, 1, 2)));
-    Ok(())
-}
-
-#[test]
-fn nothing_is_forced_where_nothing_follows(rt: HostRuntime) -> Result<(), Fail> {
-    let problem = problem_of_two(rt.alloc())?;
-    let found = moved(rt.alloc(), &problem, false)?;
-    assert!(rt; found.is_none());
     Ok(())
 }
