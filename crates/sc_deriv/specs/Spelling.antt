@@ -1,8 +1,7 @@
 -- Derivations that can be written down: whole trees, and names that are facts' names.
 use Rattle.std.specs.Prelude.{◌≡◌, ℕ, ◌+◌, ◌-◌, nat_eq, Bool, true, false, ◌&&◌, if◌then◌else◌, List, [], ◌∷◌, ◌++◌}
-use Rattle.std.specs.List.{list_any, list_all}
-use Rattle.sc_terms.specs.declared.atoms.Sign.{Sign}
-use Rattle.sc_terms.specs.Meaning.{is_plus}
+use Rattle.std.specs.List.{list_all}
+pub use Rattle.sc_terms.specs.Regions.{has_plus}
 use Rattle.sc_facts.specs.declared.name.FactName.{FactName}
 use Rattle.sc_facts.specs.declared.name.FactName.TheVariants as names
 use Rattle.sc_rules.specs.declared.step.PlainStep.{PlainStep}
@@ -39,10 +38,6 @@ pub data IsTree : List Node → Type 0 where
 abbrev pub closes : ℕ → List Node → Bool
 closes open_count [] = nat_eq open_count 0
 closes open_count (node ∷ nodes) = if nat_eq open_count 0 then false else closes (open_count - 1 + branch_count node) nodes
-
--- a region's word has a plus
-abbrev pub has_plus : List Sign → Bool
-has_plus signs = list_any is_plus signs
 
 abbrev pub name_has_plus : FactName → Bool
 name_has_plus (names.Empty cube) = has_plus cube.signs

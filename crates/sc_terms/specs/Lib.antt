@@ -9,4 +9,6 @@ pub mod Conditions
 pub mod Literals
 pub mod Bank
 pub mod BankValues
+pub mod Regions
+pub mod Bounds
 pub mod Under

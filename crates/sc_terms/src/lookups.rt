@@ -3,8 +3,9 @@
 ghost use Rattle.std.specs.Prelude.{◌≡◌, ◌<◌, ◌^◌, length};
 ghost use Rattle.std.specs.List.{list_any};
 ghost use Rattle.sc_terms.specs.Lookup.{component_from, diff_from, element_form, formula_form, is_card_among, is_diff_of, is_listed};
+ghost use Rattle.sc_terms.specs.Regions.{has_plus};
 
-use crate::atoms::Atom;
+use crate::atoms::{Atom, Sign};
 use crate::nodes::{Element, Formula, Numbers};
 
 /// Whether the number is in the list.
@@ -12,6 +13,13 @@ pub fn is_listed(numbers: &[u32], number: u32) -> bool
     ensures { result ≡ is_listed number numbers.now }
 {
     numbers.iter().any(|other| number == *other)
+}
+
+/// Whether one of the signs is a plus.
+pub fn has_plus(signs: &[Sign]) -> bool
+    ensures { result ≡ has_plus signs.now }
+{
+    signs.iter().any(|sign| matches!(sign, Sign::Plus))
 }
 
 /// The number of the first list that has this number.

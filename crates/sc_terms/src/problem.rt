@@ -5,8 +5,10 @@ ghost use Rattle.std.specs.List.{list_any};
 ghost use Rattle.std.specs.Option.{option_copied};
 ghost use Rattle.sc_terms.specs.Lookup.{formula_at, set_at, element_at, is_listed, component_of, is_empty_set, sets_of, basis_of, is_diff_of, is_diff_at, diff_of, is_counted};
 ghost use Rattle.sc_terms.specs.Conditions.{IsIn, IsProblem};
+ghost use Rattle.sc_terms.specs.Regions.{is_component, is_region};
 
-use crate::lookups::{first_diff, first_with, some_element_counts, some_formula_counts};
+use crate::atoms::Cube;
+use crate::lookups::{first_diff, first_with, has_plus, some_element_counts, some_formula_counts};
 use crate::nodes::{Element, Formula, Numbers, SetTerm};
 use sc_base::{Sequence, item_at};
 use std::marker::Model;
@@ -205,6 +207,22 @@ impl Problem {
         let sets = self.component(component);
         some_formula_counts(self.parts.formulas.as_slice(), sets)
             || some_element_counts(self.parts.elements.as_slice(), sets)
+    }
+
+    /// Whether there is a component with this number.
+    fn is_component(&self, component: u32) -> bool
+        ensures { result ≡ is_component self.now component }
+    {
+        1 <= component && component as usize <= self.parts.components.len()
+    }
+
+    /// Whether the cube is a region of the problem: its component is there, its word has a plus, and no more signs than the component's basis has sets.
+    pub fn is_region(&self, cube: &Cube) -> bool
+        ensures { result ≡ is_region self.now cube.now }
+    {
+        self.is_component(cube.component)
+            && has_plus(cube.signs.as_slice())
+            && cube.signs.len() <= self.basis(cube.component).len()
     }
 
     /// How many nodes there are.

@@ -2,7 +2,6 @@ pub mod Budgets
 pub mod Verdicts
 pub mod Chains
 pub mod Lean
-pub mod Bounds
 pub mod Wide
 pub mod Events
 pub mod Machine

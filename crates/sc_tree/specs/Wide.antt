@@ -1,6 +1,6 @@
 -- Numbers past 128 bits on a path: what its bounds fix has a product or a sum that no signed number of 128 bits holds.
 use Rattle.std.specs.Prelude.{◌≡◌, ℕ, ◌^◌, ◌≤◌, Bool, true, false, ◌⊎◌, ℤ, pos, ◌+◌, ◌+ℤ◌, ◌*ℤ◌, ◌≤ℤ◌, unsigned_abs, List, [], ◌∷◌, ◌++◌, length, map, slice_get, if◌then◌else◌, Some, ⊤}
-use Rattle.std.specs.List.{list_any, AllByRecursion}
+use Rattle.std.specs.List.{AllByRecursion}
 use Rattle.std.proofs.Math.IntN.{neg_ℤ}
 use Rattle.sc_terms.specs.declared.atoms.Atom.{Atom}
 use Rattle.sc_terms.specs.declared.atoms.Atom.TheVariants as atoms
@@ -11,8 +11,9 @@ use Rattle.sc_terms.specs.declared.form.Row.{Row}
 use Rattle.sc_terms.specs.declared.nodes.Element.TheVariants as elements
 use Rattle.sc_terms.specs.declared.problem.Parts.{Parts}
 use Rattle.sc_terms.specs.Conditions.{IsIn}
-use Rattle.sc_terms.specs.Lookup.{set_at, element_at, is_empty_set, component_of, is_counted, basis_of}
+use Rattle.sc_terms.specs.Lookup.{set_at, element_at, is_empty_set, component_of, is_counted}
 use Rattle.sc_terms.specs.Meaning.{is_plus}
+use Rattle.sc_terms.specs.Regions.{is_region}
 use Rattle.sc_terms.specs.Same.{same_truth}
 use Rattle.sc_base.specs.Numbered.{item_at}
 use Rattle.sc_facts.specs.declared.fact.Fact.{Fact}
@@ -20,7 +21,7 @@ use Rattle.sc_facts.specs.declared.fact.Fact.TheVariants as facts
 use Rattle.sc_facts.specs.declared.note.Note.{Note}
 use Rattle.sc_facts.specs.declared.note.Note.TheVariants as notes
 use Rattle.sc_facts.specs.Facts.{has, rows_of}
-use Rattle.sc_tree.specs.Bounds.{IsLeastOf, IsGreatestOf, at_most, at_least, High, Low}
+use Rattle.sc_terms.specs.Bounds.{IsLeastOf, IsGreatestOf, at_most, at_least, High, Low}
 
 -- ---- what a path fixes
 -- the path says that the atom is at most h, and at least l
@@ -105,9 +106,8 @@ abbrev pub AreApart : List Cube → Type 0
 AreApart [] = ⊤
 AreApart (c ∷ cs) = AllByRecursion (λ d. (d.component ≡ c.component) × (are_disjoint c.signs d.signs ≡ true)) cs × AreApart cs
 
--- a region has a plus, and no more signs than its component's basis has sets
 abbrev pub IsRegion : Parts → Cube → Type 0
-IsRegion problem cube = IsIn (length problem.components) cube.component × (list_any is_plus cube.signs ≡ true) × (length cube.signs ≤ length (basis_of problem cube.component))
+IsRegion problem cube = is_region problem cube ≡ true
 
 abbrev pub sizes : List Cube → List (ℤ × Atom)
 sizes cubes = map (λ c. (pos 1, atoms.Size c)) cubes
