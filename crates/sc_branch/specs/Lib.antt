@@ -1,3 +1,4 @@
 pub mod Clashes
 pub mod Growing
 pub mod Labels
+pub mod Tried

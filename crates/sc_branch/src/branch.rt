@@ -1,7 +1,7 @@
 //! A branch of the search.
 
 ghost use Rattle.std.specs.Prelude.{◌≡◌, ◌<◌, length, IfOk, IfSome};
-ghost use Rattle.sc_sorts.specs.Posed.{IsPure, IsOfBank};
+ghost use Rattle.sc_sorts.specs.Posed.{IsOfScript, IsIntless, IsPosed};
 ghost use Rattle.sc_terms.specs.Values.{Shows};
 ghost use Rattle.sc_model.specs.Deciding.{Concludes, Divides};
 ghost use Rattle.sc_tree.specs.Events.{AllowsOn, HasNoClash};
@@ -66,8 +66,7 @@ impl Branch {
         bank: &Bank,
         budget: u64,
     ) -> Result<Event, Memory>
-        requires pure { IsPure problem.now }
-        requires of_bank { IsOfBank problem.now bank.now }
+        requires posed { IsPosed problem.now bank.now }
         requires on { IsOn problem.now budget self.old.path.facts self.old.steps }
         ensures allowed { IfOk result (AllowsOn problem.now budget self.old.path.facts self.old.steps) }
         ensures held { IfOk result (λ event. IsHeldAfter problem.now self.old event self.new) }
@@ -93,8 +92,7 @@ impl Branch {
         bank: &Bank,
         budget: u64,
     ) -> Result<Event, Memory>
-        requires pure { IsPure problem.now }
-        requires of_bank { IsOfBank problem.now bank.now }
+        requires posed { IsPosed problem.now bank.now }
         requires on { IsOn problem.now budget self.old.path.facts self.old.steps }
         requires apart { HasNoClash self.old.path.facts }
         ensures allowed { IfOk result (AllowsOn problem.now budget self.old.path.facts self.old.steps) }
@@ -126,8 +124,7 @@ impl Branch {
         bank: &Bank,
         guessed: &Guessed,
     ) -> Result<Option<Interp>, Memory>
-        requires pure { IsPure problem.now }
-        requires of_bank { IsOfBank problem.now bank.now }
+        requires posed { IsPosed problem.now bank.now }
         ensures { IfOk result (λ values. IfSome values (Shows problem.now)) }
     {
         if guessed.stuck.is_some() {
@@ -175,7 +172,8 @@ impl Branch {
 
     /// What is due on the path; where nothing is, the values that are read off it are found.
     fn settle(&mut self, alloc: Global, problem: &Problem, budget: u64) -> Result<Event, Memory>
-        requires pure { IsPure problem.now }
+        requires script { IsOfScript problem.now }
+        requires intless { IsIntless problem.now }
         requires on { IsOn problem.now budget self.old.path.facts self.old.steps }
         requires apart { HasNoClash self.old.path.facts }
         requires room { length self.old.steps < budget }

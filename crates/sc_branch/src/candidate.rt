@@ -1,10 +1,10 @@
 //! Values that are read off a path and tried.
 
 ghost use Rattle.std.specs.Prelude.{◌≡◌, true, IfOk, IfSome};
-ghost use Rattle.sc_sorts.specs.Posed.{IsPure, IsOfBank};
+ghost use Rattle.sc_sorts.specs.Posed.{IsOfBank, IsPosed};
 ghost use Rattle.sc_terms.specs.BankValues.{bank_meaning};
-ghost use Rattle.sc_terms.specs.Meaning.{AllTrue};
 ghost use Rattle.sc_terms.specs.Values.{interpretation_of, Shows};
+ghost use Rattle.sc_branch.specs.Tried.{IsRight};
 
 use crate::said::Said;
 use sc_facts::{Fact, Path};
@@ -13,10 +13,10 @@ use sc_model::{model_of, read_off_values_show};
 use sc_terms::{Bank, Interp, Memory, Problem};
 use std::alloc::Global;
 
-/// Whether the values make all assertions of the problem true; false also where a number passes 128 bits, or there are more than the evaluation counts.
+/// Whether the values make all assertions of the problem true, and each number that their evaluation meets fits 128 bits; false also where there are more assertions than the evaluation counts.
 fn is_right(alloc: Global, problem: &Problem, bank: &Bank, values: &Interp) -> Result<bool, Memory>
     requires { IsOfBank problem.now bank.now }
-    ensures { IfOk result (λ yes. yes ≡ true → AllTrue (bank_meaning bank.now (interpretation_of values.now)) problem.now.assertions) }
+    ensures { IfOk result (λ yes. yes ≡ true → IsRight bank.now problem.now.assertions (bank_meaning bank.now (interpretation_of values.now))) }
 {
     let assertions = problem.assertions();
     if assertions.len() > u32::MAX as usize {
@@ -38,8 +38,7 @@ fn candidate(
     path: &Path,
     said: &Said,
 ) -> Result<Option<Interp>, Memory>
-    requires pure { IsPure problem.now }
-    requires of_bank { IsOfBank problem.now bank.now }
+    requires posed { IsPosed problem.now bank.now }
     ensures { IfOk result (λ values. IfSome values (Shows problem.now)) }
 {
     read_off_values_show();
@@ -70,8 +69,7 @@ pub(crate) fn guessed_candidate(
     said: &Said,
     members: &[(u32, u32)],
 ) -> Result<Option<Interp>, Memory>
-    requires pure { IsPure problem.now }
-    requires of_bank { IsOfBank problem.now bank.now }
+    requires posed { IsPosed problem.now bank.now }
     ensures { IfOk result (λ values. IfSome values (Shows problem.now)) }
 {
     if members.is_empty() {

@@ -20,7 +20,7 @@ use Rattle.sc_rules.specs.Pairs.{first_sign, equal_fact, same_set_fact}
 use Rattle.sc_rules.specs.Boolean.{sign, sign_of, all_have, some_has, agree, differ, own_sign, atom_with}
 use Rattle.sc_rules.specs.Steps.{one}
 use Rattle.sc_tree.specs.Events.{HasNoClash}
-use Rattle.sc_sorts.specs.Posed.{IsPureFormula}
+use Rattle.sc_sorts.specs.Posed.{IsIntlessFormula}
 use Rattle.sc_model.specs.Settled.{BearsOut, IsBorneOut}
 use Rattle.sc_model.specs.declared.steps.Due.{Due}
 use Rattle.sc_model.specs.declared.steps.Due.TheVariants.{Take, Split}
@@ -178,7 +178,7 @@ same_or_not path f g (inr a) (inl b) = inr (second (sign path f true && sign pat
     second false false z p q = absurd (false≢true p)
 
 -- a formula whose parts all have signs is a constant or a membership, or its own sign is forced
-pub forced_by : (path : List Fact) (node : Formula) (s : Bool) → IsPureFormula node → atom_with node s ≡ None → list_any (is_unsigned path) (parts_of node) ≡ false → ((c : ℕ) × (node ≡ formulas.Flag c)) ⊎ (is_some (own_sign path node) ≡ true)
+pub forced_by : (path : List Fact) (node : Formula) (s : Bool) → IsIntlessFormula node → atom_with node s ≡ None → list_any (is_unsigned path) (parts_of node) ≡ false → ((c : ℕ) × (node ≡ formulas.Flag c)) ⊎ (is_some (own_sign path node) ≡ true)
 forced_by path formulas.True s b m e = inr refl
 forced_by path formulas.False s b m e = inr refl
 forced_by path (formulas.Flag c) s b m e = inl (c, refl)
@@ -193,7 +193,7 @@ forced_by path (formulas.Eq x y) s b m e = absurd cc
 forced_by path (formulas.EqSet t u) s b m e = absurd cc
 forced_by path (formulas.Le row) s b m e = absurd b
 
-pub borne_by_none : (path : List Fact) (node : Formula) (s : Bool) → IsPureFormula node → atom_with node s ≡ None → IsUnsignedOf path (parts_of node) None → is_some (own_sign path node) ≡ false → BearsOut path node s
+pub borne_by_none : (path : List Fact) (node : Formula) (s : Bool) → IsIntlessFormula node → atom_with node s ≡ None → IsUnsignedOf path (parts_of node) None → is_some (own_sign path node) ≡ false → BearsOut path node s
 borne_by_none path node s b m un none =
     elim (forced_by path node s b m un) [
       | inl flag ↦ subst (λ x. BearsOut path x s) (sym flag.1) tt

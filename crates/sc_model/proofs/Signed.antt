@@ -24,7 +24,7 @@ use Rattle.sc_facts.specs.declared.name.FactName.TheVariants as names
 use Rattle.sc_facts.specs.Facts.{has}
 use Rattle.sc_sorts.specs.Sorts.{may_hold}
 use Rattle.sc_sorts.specs.Sorted.{Sorting, AreSorted, FormulaIsSorted, SortsMatch}
-use Rattle.sc_sorts.specs.Posed.{NamesFlag, IsPureFormula, IsNoDiff, FormulaNamesNoDiff, NamesNoDiff}
+use Rattle.sc_sorts.specs.Posed.{NamesFlag, IsIntlessFormula, IsNoDiff, FormulaNamesNoDiff, NamesNoDiff}
 use Rattle.sc_rules.specs.Pairs.{first_sign, ordered, same_set, same_set_fact, equal}
 use Rattle.sc_rules.specs.Boolean.{sign, all_have, some_has, agree, differ}
 use Rattle.sc_rules.specs.Members.{within, within_of}
@@ -98,7 +98,7 @@ ordered_back s t = by (nat_lt s t) (nat_lt t s) refl refl
     by false true p q = rw (p, q) refl
     by false false p q = let same : s ≡ t = neither_below s t p q in subst (λ k. ordered k s ≡ ordered s k) same refl
 
-module _ (problem : Parts) (made : IsProblem problem) (by : Sorting) (sorted : AreSorted problem by) (match : SortsMatch) (path : List Fact) (label : ℕ → ℕ) (settled : IsSettledBy problem path label) (plain : NamesNoDiff problem) (pure : AllByRecursion IsPureFormula problem.formulas) (i : Interpretation) (v : Valuation) (fits : Fits problem i v) (flags : (n c : ℕ) → NamesFlag problem n c → i.flags c ≡ sign path n true) (constants : (e : ℕ) → IsIn (length problem.elements) e → IsNoDiff problem e → v.element e ≡ pos (label e)) (held : (s : ℕ) → IsIn (length problem.sets) s → AreLabelsIn problem path label s (v.members s)) (ranks : Ranks) (descends : Descends problem (node_count problem) ranks) where
+module _ (problem : Parts) (made : IsProblem problem) (by : Sorting) (sorted : AreSorted problem by) (match : SortsMatch) (path : List Fact) (label : ℕ → ℕ) (settled : IsSettledBy problem path label) (plain : NamesNoDiff problem) (intless : AllByRecursion IsIntlessFormula problem.formulas) (i : Interpretation) (v : Valuation) (fits : Fits problem i v) (flags : (n c : ℕ) → NamesFlag problem n c → i.flags c ≡ sign path n true) (constants : (e : ℕ) → IsIn (length problem.elements) e → IsNoDiff problem e → v.element e ≡ pos (label e)) (held : (s : ℕ) → IsIn (length problem.sets) s → AreLabelsIn problem path label s (v.members s)) (ranks : Ranks) (descends : Descends problem (node_count problem) ranks) where
   flag_true : (n c : ℕ) (s : Bool) → NamesFlag problem n c → sign path n s ≡ true → i.flags c ≡ s
   flag_true n c true at e = flags n c at ∙ e
   flag_true n c false at e = flags n c at ∙ and_false (sign path n true) (sign path n false) (settled.consistent (names.Sign n)) e
@@ -166,7 +166,7 @@ module _ (problem : Parts) (made : IsProblem problem) (by : Sorting) (sorted : A
       by_side e m k (inl both) = not_same_first (v.members s) (v.members t) (pos (label e)) (label_within e s true p m both.0) (label_within e t false q k both.1)
       by_side e m k (inr both) = not_same_second (v.members s) (v.members t) (pos (label e)) (label_within e s false p m both.0) (label_within e t true q k both.1)
 
-  truth_is : (n : ℕ) (node : Formula) (s : Bool) → formula_at problem n ≡ Some node → FormulaIn problem node → FormulaIsSorted by node → FormulaNamesNoDiff problem node → IsPureFormula node → ArePartsKnown path v node → sign path n s ≡ true → BearsOut path node s → truth_of problem i v node ≡ s
+  truth_is : (n : ℕ) (node : Formula) (s : Bool) → formula_at problem n ≡ Some node → FormulaIn problem node → FormulaIsSorted by node → FormulaNamesNoDiff problem node → IsIntlessFormula node → ArePartsKnown path v node → sign path n s ≡ true → BearsOut path node s → truth_of problem i v node ≡ s
   truth_is n formulas.True s at is right no_diff clean k e b = cc
   truth_is n formulas.False s at is right no_diff clean k e b = cc
   truth_is n (formulas.Flag c) s at is right no_diff clean k e b = flag_true n c s at e
@@ -205,7 +205,7 @@ module _ (problem : Parts) (made : IsProblem problem) (by : Sorting) (sorted : A
       let node = item_there problem.formulas n is in
       let well_made = formula_in problem made n node.0 node.1 in
       fits.truths n node.0 node.1
-      ∙ truth_is n node.0 s node.1 well_made (sorted.formulas n node.0 node.1) (item_all (FormulaNamesNoDiff problem) problem.formulas n node.0 plain.formulas node.1) (item_all IsPureFormula problem.formulas n node.0 pure node.1) (parts_known (ranks.formula n) low node.0 well_made (descends.formulas n node.0 node.1).1) e (settled.borne_out n node.0 s node.1 e)
+      ∙ truth_is n node.0 s node.1 well_made (sorted.formulas n node.0 node.1) (item_all (FormulaNamesNoDiff problem) problem.formulas n node.0 plain.formulas node.1) (item_all IsIntlessFormula problem.formulas n node.0 intless node.1) (parts_known (ranks.formula n) low node.0 well_made (descends.formulas n node.0 node.1).1) e (settled.borne_out n node.0 s node.1 e)
 
   known_below : (k : ℕ) → AreKnownBelow k
   known_below zero f is below = absurd (omega (arith, below))

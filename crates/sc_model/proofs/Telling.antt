@@ -21,7 +21,7 @@ use Rattle.sc_facts.specs.declared.name.FactName.TheVariants as names
 use Rattle.sc_facts.specs.Facts.{has}
 use Rattle.sc_sorts.specs.Sorts.{may_hold}
 use Rattle.sc_sorts.specs.Sorted.{Sorting, AreSorted, SortsMatch}
-use Rattle.sc_sorts.specs.Posed.{IsPure}
+use Rattle.sc_sorts.specs.Posed.{IsOfScript}
 use Rattle.sc_rules.specs.declared.step.PlainStep.{PlainStep}
 use Rattle.sc_rules.specs.declared.step.PlainStep.TheVariants.{EqRefl, SeqRefl, Differ, Cut}
 use Rattle.sc_rules.specs.Pairs.{first_sign, ordered, equal, same_set}
@@ -116,12 +116,12 @@ some_of : {X : Type 0} (o : Option X) → is_some o ≡ true → (x : X) × (o �
 some_of None h = absurd (false≢true h)
 some_of (Some x) h = (x, refl)
 
-pub differ_divides : SortsMatch → (problem : Parts) → IsProblem problem → IsPure problem → (path : List Fact) (n s t : ℕ) → formula_at problem n ≡ Some (formulas.EqSet s t) → same_set path s t false ≡ true → s ≢ t → ((e : ℕ) → may_hold problem s e ≡ true → tells path e s t ≡ false) → Divides problem path (Differ s t)
-differ_divides match problem made pure path n s t at said apart untold =
-    let d = some_of (diff_of problem s t) (pure.diffs n s t at apart) in
+pub differ_divides : SortsMatch → (problem : Parts) → IsProblem problem → IsOfScript problem → (path : List Fact) (n s t : ℕ) → formula_at problem n ≡ Some (formulas.EqSet s t) → same_set path s t false ≡ true → s ≢ t → ((e : ℕ) → may_hold problem s e ≡ true → tells path e s t ≡ false) → Divides problem path (Differ s t)
+differ_divides match problem made script path n s t at said apart untold =
+    let d = some_of (diff_of problem s t) (script.diffs n s t at apart) in
     let x = diff_there problem s t d.0 d.1 in
     let z = item_there problem.sets s ((formula_in problem made n (formulas.EqSet s t) at).0) in
-    let may : may_hold problem s d.0 ≡ true = (match.held problem made pure.sorted.0 pure.sorted.1 s d.0 z.0 x.0 z.1 x.1).1 (diff_sort problem pure.sorted.0 pure.sorted.1 s t d.0 x.0 x.1 x.2) in (
+    let may : may_hold problem s d.0 ≡ true = (match.held problem made script.sorted.0 script.sorted.1 s d.0 z.0 x.0 z.1 x.1).1 (diff_sort problem script.sorted.0 script.sorted.1 s t d.0 x.0 x.1 x.2) in (
       (tells_apart d.0 (ordered s t) true, tells_apart d.0 (ordered s t) false),
       ap (λ b. (if b then diff_of problem s t else None) >>= λ k. Some (tells_apart k (ordered s t) true ∷ tells_apart k (ordered s t) false ∷ [])) said
           ∙ ap (λ o. o >>= λ k. Some (tells_apart k (ordered s t) true ∷ tells_apart k (ordered s t) false ∷ [])) d.1,

@@ -6,7 +6,7 @@ use Rattle.sc_terms.specs.declared.nodes.Formula.TheVariants as formulas
 use Rattle.sc_terms.specs.declared.problem.Parts.{Parts}
 use Rattle.sc_terms.specs.Lookup.{formula_at, is_listed}
 use Rattle.sc_terms.specs.Conditions.{IsIn, FormulaIn}
-use Rattle.sc_sorts.specs.Posed.{IsPureFormula}
+use Rattle.sc_sorts.specs.Posed.{IsIntlessFormula}
 use Rattle.sc_facts.specs.declared.fact.Fact.{Fact}
 use Rattle.sc_facts.specs.declared.fact.Fact.TheVariants as facts
 use Rattle.sc_facts.specs.Facts.{has}
@@ -78,11 +78,11 @@ abbrev pub IsUnsignedOf : List Fact → List ℕ → Option ℕ → Type 0
 IsUnsignedOf path fs None = list_any (is_unsigned path) fs ≡ false
 IsUnsignedOf path fs (Some f) = (is_unsigned path f ≡ true) × (is_listed f fs ≡ true)
 
--- formula n of a pure problem is this node, and has this sign; no clash stands
+-- formula n is this node, which is no inequality, and has this sign; no clash stands
 pub record HasSign (problem : Parts) (path : List Fact) (n : ℕ) (node : Formula) (b : Bool) : Type 0 where
   pub at : formula_at problem n ≡ Some node
   pub signed : sign path n b ≡ true
-  pub clean : IsPureFormula node
+  pub intless : IsIntlessFormula node
   pub inside : FormulaIn problem node
   pub consistent : HasNoClash path
 

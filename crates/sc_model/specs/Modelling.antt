@@ -9,7 +9,7 @@ use Rattle.sc_terms.specs.declared.interp.Value.{Value}
 use Rattle.sc_terms.specs.declared.interp.Value.TheVariants.{Flag, Number, Set}
 use Rattle.sc_terms.specs.declared.problem.Parts.{Parts}
 use Rattle.sc_terms.specs.Meaning.{IsInterpretation}
-use Rattle.sc_terms.specs.Values.{ValueMap, Holds, Shows, interpretation_of}
+use Rattle.sc_terms.specs.Values.{ValueMap, Holds, Shows, interpretation_of, meaning}
 use Rattle.sc_terms.specs.Lookup.{is_listed, list_or_none}
 use Rattle.sc_terms.specs.Conditions.{IsIn, IsProblem}
 use Rattle.sc_facts.specs.declared.fact.Fact.{Fact}
@@ -17,7 +17,7 @@ use Rattle.sc_facts.specs.declared.fact.Fact.TheVariants as facts
 use Rattle.sc_facts.specs.Same.{same_fact}
 use Rattle.sc_facts.specs.Facts.{has}
 use Rattle.sc_sorts.specs.Sorts.{may_hold}
-use Rattle.sc_sorts.specs.Posed.{NamesFlag, NamesSet, NamesElement, IsPure}
+use Rattle.sc_sorts.specs.Posed.{NamesFlag, NamesSet, NamesElement, IsOfScript, IsIntless, NodesFit}
 use Rattle.sc_rules.specs.Boolean.{sign}
 use Rattle.sc_rules.specs.Members.{within}
 use Rattle.sc_model.specs.Settled.{IsSettledBy}
@@ -97,11 +97,11 @@ pub record Fills (problem : Parts) (path : List Fact) (label : ℕ → ℕ) (old
 -- The values that are read off a settled path make the problem true.
 abbrev pub SettledPathsHaveModels : Type 0
 SettledPathsHaveModels =
-    (problem : Parts) → IsProblem problem → IsPure problem → (path : List Fact) (label : ℕ → ℕ) → IsSettledBy problem path label →
+    (problem : Parts) → IsProblem problem → IsOfScript problem → IsIntless problem → (path : List Fact) (label : ℕ → ℕ) → IsSettledBy problem path label →
     (m : ValueMap) → IsModelOf problem path label m → IsInterpretation (interpretation_of m) → Shows problem m
 
--- Values that are read off any path, and make the roots true, make the problem true: they name its constants alone, and no number passes 128 bits.
+-- Values that are read off any path, make the roots true, and give the nodes numbers that fit 128 bits, make the problem true: they name its constants alone.
 abbrev pub ReadOffValuesShow : Type 0
 ReadOffValuesShow =
-    (problem : Parts) → IsPure problem → (path : List Fact) (label : ℕ → ℕ) (m : ValueMap) → IsModelOf problem path label m →
-    IsInterpretation (interpretation_of m) → Holds problem (interpretation_of m) → Shows problem m
+    (problem : Parts) (path : List Fact) (label : ℕ → ℕ) (m : ValueMap) → IsModelOf problem path label m →
+    IsInterpretation (interpretation_of m) → Holds problem (interpretation_of m) → NodesFit problem (meaning problem (interpretation_of m)) → Shows problem m

@@ -2,7 +2,7 @@
 
 ghost use Rattle.std.specs.Prelude.{◌≡◌, true, IfOk, MatchOption};
 ghost use Rattle.std.specs.List.{AllByRecursion};
-ghost use Rattle.sc_sorts.specs.Posed.{IsPure};
+ghost use Rattle.sc_sorts.specs.Posed.{IsOfScript, IsIntless};
 ghost use Rattle.sc_rules.specs.Boolean.{sign};
 ghost use Rattle.sc_tree.specs.Events.{HasNoClash};
 ghost use Rattle.sc_model.specs.Settled.{IsSettledBy};
@@ -28,7 +28,8 @@ pub fn first_due(
     classes: &Classes,
     labels: &[u32],
 ) -> Result<Option<Due>, Memory>
-    requires pure { IsPure problem.now }
+    requires script { IsOfScript problem.now }
+    requires intless { IsIntless problem.now }
     requires roots { AllByRecursion (λ r. sign path.now.facts r true ≡ true) problem.now.roots }
     requires consistent { HasNoClash path.now.facts }
     requires labels { AreLabelsOf problem.now path.now.facts classes.now labels.now }

@@ -3,7 +3,7 @@
 ghost use Rattle.std.specs.Prelude.{◌≡◌, ◌&&◌, ℕ, true, false, length, IfOk, MatchOption};
 ghost use Rattle.sc_terms.specs.Conditions.{IsIn};
 ghost use Rattle.sc_sorts.specs.Sorts as sorts;
-ghost use Rattle.sc_sorts.specs.Posed.{IsPure};
+ghost use Rattle.sc_sorts.specs.Posed.{IsOfScript};
 ghost use Rattle.sc_rules.specs.Pairs.{same_set};
 ghost use Rattle.sc_tree.specs.Events.{HasNoClash};
 ghost use Rattle.sc_model.specs.Settled.{MovesStand, AreToldApart};
@@ -134,7 +134,7 @@ fn are_told_apart(problem: &Problem, path: &Path, first: u32, second: u32) -> bo
 /// What is due at a formula, where it is an equation of sets that differ.
 fn due_differ_at(problem: &Problem, path: &Path, number: u32) -> Option<Due>
     requires number { IsIn (length problem.now.formulas) number }
-    requires pure { IsPure problem.now }
+    requires script { IsOfScript problem.now }
     requires consistent { HasNoClash path.now.facts }
     ensures { MatchOption result (IsTold problem.now path.now.facts number) (IsDue problem.now path.now.facts) }
 {
@@ -157,7 +157,7 @@ fn due_differ_at(problem: &Problem, path: &Path, number: u32) -> Option<Due>
 
 /// What is due at equations of sets that differ, or nothing exactly where all that differ are told apart.
 pub(crate) fn due_differ(problem: &Problem, path: &Path) -> Option<Due>
-    requires pure { IsPure problem.now }
+    requires script { IsOfScript problem.now }
     requires consistent { HasNoClash path.now.facts }
     ensures { MatchOption result ((n : ℕ) → IsIn (length problem.now.formulas) n → IsTold problem.now path.now.facts n) (IsDue problem.now path.now.facts) }
 {

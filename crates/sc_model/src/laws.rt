@@ -13,7 +13,7 @@ pub fn settled_paths_have_models()
     sorts_match();
 }
 
-/// Values that are read off any path, and make the roots true, make the problem true: they name its constants alone, and no number passes 128 bits.
+/// Values that are read off any path, make the roots true, and give the nodes numbers that fit 128 bits, make the problem true: they name its constants alone.
 pub fn read_off_values_show()
     ensures { ReadOffValuesShow }
 {}

@@ -6,7 +6,7 @@ ghost use Rattle.std.specs.FinMap as map;
 ghost use Rattle.sc_base.specs.Integers.{without, in_order};
 ghost use Rattle.sc_terms.specs.Conditions.{IsIn};
 ghost use Rattle.sc_terms.specs.Values.{Shows};
-ghost use Rattle.sc_sorts.specs.Posed.{NamesFlag, NamesSet, NamesElement, IsPure};
+ghost use Rattle.sc_sorts.specs.Posed.{NamesFlag, NamesSet, NamesElement, IsOfScript, IsIntless};
 ghost use Rattle.sc_model.specs.Settled.{IsSettledBy};
 ghost use Rattle.sc_model.specs.Modelling as spec;
 ghost use Rattle.sc_model.specs.Modelling.{label_in, HasValue, IsModelOf, Fills, Gathers, Gathered, HasNumbers, IsSetOf};
@@ -288,7 +288,8 @@ pub fn model_of(
     path: &Path,
     labels: &[u32],
 ) -> Result<Interp, Memory>
-    requires { IsPure problem.now }
+    requires script { IsOfScript problem.now }
+    requires intless { IsIntless problem.now }
     ensures read_off { IfOk result (IsModelOf problem.now path.now.facts (label_in labels.now)) }
     ensures shows { IsSettledBy problem.now path.now.facts (label_in labels.now) → IfOk result (Shows problem.now) }
 {

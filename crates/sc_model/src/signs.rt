@@ -4,7 +4,7 @@ ghost use Rattle.std.specs.Prelude.{◌≡◌, ◌≢◌, ℕ, None, Some, lengt
 ghost use Rattle.sc_terms.specs.Conditions.{IsIn};
 ghost use Rattle.sc_rules.specs.Boolean as rules;
 ghost use Rattle.sc_rules.specs.Boolean.{own_sign};
-ghost use Rattle.sc_sorts.specs.Posed.{IsPure};
+ghost use Rattle.sc_sorts.specs.Posed.{IsIntless};
 ghost use Rattle.sc_tree.specs.Events.{HasNoClash};
 ghost use Rattle.sc_model.specs.Settled.{BearsOut, IsBorneOut};
 ghost use Rattle.sc_model.specs.Deciding as spec;
@@ -100,7 +100,7 @@ fn due_of(problem: &Problem, path: &Path, number: u32, node: &Formula, sign: boo
 /// What is due at the formula with this number, or nothing exactly where the path bears out its signs.
 fn due_at(problem: &Problem, path: &Path, number: u32) -> Option<Due>
     requires number { IsIn (length problem.now.formulas) number }
-    requires pure { IsPure problem.now }
+    requires intless { IsIntless problem.now }
     requires consistent { HasNoClash path.now.facts }
     ensures { MatchOption result (IsBorneOut problem.now path.now.facts number) (IsDue problem.now path.now.facts) }
 {
@@ -113,7 +113,7 @@ fn due_at(problem: &Problem, path: &Path, number: u32) -> Option<Due>
 
 /// What is due at the signs of formulas, or nothing exactly where the path bears out each. Each formula is looked at once.
 pub(crate) fn due_sign(problem: &Problem, path: &Path) -> Option<Due>
-    requires pure { IsPure problem.now }
+    requires intless { IsIntless problem.now }
     requires consistent { HasNoClash path.now.facts }
     ensures { MatchOption result ((n : ℕ) → IsIn (length problem.now.formulas) n → IsBorneOut problem.now path.now.facts n) (IsDue problem.now path.now.facts) }
 {

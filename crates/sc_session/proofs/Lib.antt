@@ -1,4 +1,3 @@
-pub mod Pures
 pub mod Standing
 pub mod Doing
 pub mod Trees

@@ -21,7 +21,7 @@ use Rattle.sc_stack.specs.declared.stack.StackError.{StackError}
 use Rattle.sc_stack.specs.declared.stack.StackError.TheVariants as errors
 use Rattle.sc_terms.specs.Bank.{Begins, HasSorts, NodeHasSorts, FormulaHasSorts, SetHasSorts, ElementHasSorts, FormHasSorts, AtomHasSorts, IsFormulaOf, is_formula}
 use Rattle.sc_sorts.specs.Sorted.{NodeIsSorted, IsWellSortedBank}
-use Rattle.sc_sorts.specs.Posed.{IsPureBank}
+use Rattle.sc_sorts.specs.Posed.{IsPosedBank}
 use Rattle.sc_stack.specs.declared.stack.Constant.{Constant}
 use Rattle.sc_stack.specs.Names.{Names, Level, no_names, Declares, on_last, sorts_of, assertions_in_force, with_sort, with_constant, with_assertion}
 use Rattle.sc_session.specs.States.{IsSorted}
@@ -123,27 +123,26 @@ pub one_more_sort : (names : Names) (c : Constant) → sorts_of (with_constant n
 one_more_sort names c = map-append (λ (d : Constant). d.sort) names.constants (c ∷ [])
 
 -- ---- sessions
+with_sorts : (known all : List Sort) (bank : List Node) → HasSorts all bank → IsPosedBank known bank → IsPosedBank all bank
+with_sorts known all bank sorts h = record { sorts = sorts; well_sorted = h.well_sorted; intless = h.intless; cardless = h.cardless }
+
 pub sorted_sort : (bank : List Node) (names : Names) (name : List ℕ) → IsSorted bank names → IsSorted bank (with_sort names name)
-sorted_sort bank names name h = record { pure = h.pure; well_sorted = h.well_sorted; sorts = h.sorts; assertions = subst (AllByRecursion (IsFormulaOf bank)) (sym (sort_asserts_none names name)) h.assertions }
+sorted_sort bank names name h = record { posed = h.posed; assertions = subst (AllByRecursion (IsFormulaOf bank)) (sym (sort_asserts_none names name)) h.assertions }
 
 pub sorted_constant : (bank : List Node) (names : Names) (c : Constant) → IsSorted bank names → IsSorted bank (with_constant names c)
 sorted_constant bank names c h = record {
-  pure = h.pure;
-  well_sorted = h.well_sorted;
-  sorts = subst (λ known. HasSorts known bank) (sym (one_more_sort names c)) (sorts_grow (sorts_of names) (c.sort ∷ []) bank h.sorts);
+  posed = with_sorts (sorts_of names) (sorts_of (with_constant names c)) bank (subst (λ known. HasSorts known bank) (sym (one_more_sort names c)) (sorts_grow (sorts_of names) (c.sort ∷ []) bank h.posed.sorts)) h.posed;
   assertions = subst (AllByRecursion (IsFormulaOf bank)) (sym (constant_asserts_none names c)) h.assertions;
 }
 
 pub sorted_assertion : (bank : List Node) (names : Names) (n : ℕ) → 1 ≤ length names.levels → IsFormulaOf bank n → IsSorted bank names → IsSorted bank (with_assertion names n)
 sorted_assertion bank names n some f h = record {
-  pure = h.pure;
-  well_sorted = h.well_sorted;
-  sorts = h.sorts;
+  posed = h.posed;
   assertions = subst (AllByRecursion (IsFormulaOf bank)) (sym (one_more_assertion names n some)) (all-append (IsFormulaOf bank) (assertions_in_force names) (n ∷ []) h.assertions (f, tt));
 }
 
-pub sorted_bank : (old new : List Node) (names : Names) → Begins old new → IsPureBank new → IsWellSortedBank new → HasSorts (sorts_of names) new → IsSorted old names → IsSorted new names
-sorted_bank old new names b p w s h = record { pure = p; well_sorted = w; sorts = s; assertions = still_formulas old new (assertions_in_force names) b h.assertions }
+pub sorted_bank : (old new : List Node) (names : Names) → Begins old new → IsPosedBank (sorts_of names) new → IsSorted old names → IsSorted new names
+sorted_bank old new names b p h = record { posed = p; assertions = still_formulas old new (assertions_in_force names) b h.assertions }
 
 -- nothing was made yet, and nothing is asserted
 none_well_sorted : IsWellSortedBank []
@@ -154,7 +153,7 @@ none_well_sorted = (record { members = λ n. sorts.Int; element = λ n. sorts.In
 
 pub sorted_none : (bank : List Node) (names : Names) → bank ≡ [] → names ≡ no_names → IsSorted bank names
 sorted_none bank names b n =
-    subst (λ k. IsSorted k names) (sym b) (subst (IsSorted []) (sym n) (record { pure = tt; well_sorted = none_well_sorted; sorts = tt; assertions = tt }))
+    subst (λ k. IsSorted k names) (sym b) (subst (IsSorted []) (sym n) (record { posed = record { sorts = tt; well_sorted = none_well_sorted; intless = tt; cardless = tt }; assertions = tt }))
 
 -- a declaration that was tried
 pub sorted_declared : (bank : List Node) (old made new : Names) (fault : Option Code) (number : ℕ) (tried : Result ℕ StackError) → Declares old fault made number tried new → IsSorted bank old → IsSorted bank made → IsSorted bank new

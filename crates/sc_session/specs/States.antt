@@ -2,9 +2,8 @@
 use Rattle.std.specs.Prelude.{ℕ, ◌+◌, ◌-◌, Bool, true, false, if◌then◌else◌, List, [], ◌∷◌, ◌++◌, length, slice_get, Option, Some, None}
 use Rattle.std.specs.List.{AllByRecursion}
 use Rattle.sc_terms.specs.declared.nodes.Node.{Node}
-use Rattle.sc_terms.specs.Bank.{IsBank, IsFormulaOf, HasSorts}
-use Rattle.sc_sorts.specs.Sorted.{IsWellSortedBank}
-use Rattle.sc_sorts.specs.Posed.{IsPureBank}
+use Rattle.sc_terms.specs.Bank.{IsBank, IsFormulaOf}
+use Rattle.sc_sorts.specs.Posed.{IsPosedBank}
 use Rattle.sc_stack.specs.Names.{Names, IsNames, no_names, sorts_of, assertions_in_force}
 use Rattle.sc_deriv.specs.declared.derivation.Derivation.{Derivation}
 use Rattle.sc_tree.specs.declared.verdict.Verdict.{Verdict}
@@ -58,11 +57,9 @@ derivation_of None = None
 abbrev pub proof : State → Option Derivation
 proof s = derivation_of (current_verdict s)
 
--- The nodes are well sorted, and no inequality or Int term is among them. The constants have the sorts that were declared, and each assertion in force is a formula of the bank.
+-- Formulas of the bank may be posed, where the constants have the sorts that were declared, and each assertion in force is a formula of the bank.
 pub record IsSorted (bank : List Node) (names : Names) : Type 0 where
-  pub pure : IsPureBank bank
-  pub well_sorted : IsWellSortedBank bank
-  pub sorts : HasSorts (sorts_of names) bank
+  pub posed : IsPosedBank (sorts_of names) bank
   pub assertions : AllByRecursion (IsFormulaOf bank) (assertions_in_force names)
 
 -- what is true of every session

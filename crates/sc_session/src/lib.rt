@@ -8,7 +8,8 @@
 //! what the responses to a whole script are. That the formulas which are decided say what the
 //! script's own terms say, and that a just verdict is right for these terms, is
 //! [`sessions_say_the_same`]. Every text is exactly one script ([`scripts_are_read`]). The problems
-//! of check-sats are well sorted, and of pure sets ([`stocks_are_pure`]). What `(get-proof)` answers
+//! of check-sats may be decided ([`stocks_are_posed`](sc_flatten::stocks_are_posed)), since the bank
+//! stays one whose formulas may be posed. What `(get-proof)` answers
 //! is a derivation that refutes the problem of the assertions in force ([`proofs_refute`]). A
 //! command that is refused leaves the session as it was ([`refusals_leave_sessions`]).
 //!
@@ -18,7 +19,6 @@
 #![tactic(auto)]
 
 mod laws;
-mod pure;
 mod response;
 mod session;
 mod tracing;
@@ -28,7 +28,6 @@ pub use laws::{
     proofs_refute, refusals_leave_sessions, scripts_are_read, sessions_say_the_same,
     traces_go_along, traces_keep_formulas,
 };
-pub use pure::{stocks_are_of_banks, stocks_are_pure};
 pub use response::{Response, fault_line, verdict_line};
 pub use session::Session;
 pub use tracing::Traced;

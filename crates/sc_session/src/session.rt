@@ -16,14 +16,13 @@ ghost use Rattle.sc_session.specs.Effects.{effect, turn, is_taken, assert_of};
 ghost use Rattle.sc_session.specs.Doing.{Does};
 ghost use Rattle.sc_session.specs.Doing as doing;
 
-use crate::pure::{stocks_are_of_banks, stocks_are_pure};
 use crate::response::{Response, line as line_of, quiet, refusal, told};
 use crate::tracing::{Traced, known_of, traced_refusal};
 use crate::verdicts::Verdicts;
 use sc_base::Sequence;
 use sc_commands::{Command, read_command};
-use sc_elab::{ElabError, elaborate, elaboration_stays_pure, read_sort, read_sorts_are_declared};
-use sc_flatten::prepare;
+use sc_elab::{ElabError, elaborate, elaboration_keeps_posed, read_sort, read_sorts_are_declared};
+use sc_flatten::{prepare, stocks_are_posed};
 use sc_sexpr::{Items, Tree, read_tree};
 use sc_stack::{Stack, StackError};
 use sc_terms::{Bank, Memory};
@@ -209,7 +208,7 @@ impl Session {
     fn assert(&mut self, term: &Tree<'_>, line: u64) -> Result<Response, Memory>
         ensures { (b : ℕ) → Does self.old (effects.asserts_term self.old (shape term.now) line) b result self.new }
     {
-        elaboration_stays_pure();
+        elaboration_keeps_posed();
         tell(&self.bank, &self.stack);
         match elaborate(self.alloc, term, &self.stack, &mut self.bank) {
             Ok(formula) => self.assert_formula(formula),
@@ -235,8 +234,7 @@ impl Session {
         if self.checks >= MOST_CHECKS {
             return refusal(self.alloc, line, Code::E16(u64::from(MOST_CHECKS)));
         }
-        stocks_are_pure();
-        stocks_are_of_banks();
+        stocks_are_posed();
         tell(&self.bank, &self.stack);
         let problem = prepare(self.alloc, &self.bank, self.stack.in_force())?;
         let verdict = decider.decide(self.alloc, &problem, &self.bank, budget)?;

@@ -1,7 +1,7 @@
 //! Deciding with one worker.
 
 ghost use Rattle.std.specs.Prelude.{◌≡◌, ◌≤◌, ◌^◌, ◌&&◌, true, IfOk, OnOk};
-ghost use Rattle.sc_sorts.specs.Posed.{IsPure, IsOfBank};
+ghost use Rattle.sc_sorts.specs.Posed.{IsPosed};
 ghost use Rattle.sc_tree.specs.Machine.{state, has_answer};
 ghost use Rattle.sc_tree.specs.Verdicts.{IsJust};
 ghost use Rattle.sc_workers.specs.Seats as spec;
@@ -38,8 +38,7 @@ fn ask(
     tree: &mut Tree,
     branch: &mut Branch,
 ) -> Result<bool, Memory>
-    requires pure { IsPure problem.now }
-    requires of_bank { IsOfBank problem.now bank.now }
+    requires posed { IsPosed problem.now bank.now }
     requires about { IsOf problem.now budget tree.old }
     requires busy { IsBusy tree.old branch.old }
     ensures about { OnOk result (IsOf problem.now budget tree.new) }
@@ -62,8 +61,7 @@ fn work(
     tree: &mut Tree,
     branch: Branch,
 ) -> Result<(), Memory>
-    requires pure { IsPure problem.now }
-    requires of_bank { IsOfBank problem.now bank.now }
+    requires posed { IsPosed problem.now bank.now }
     requires limit { budget ≤ 2 ^ 40 }
     requires about { IsOf problem.now budget tree.old }
     requires busy { IsBusy tree.old branch }
@@ -87,8 +85,7 @@ fn search(
     budget: u64,
     tree: &mut Tree,
 ) -> Result<(), Memory>
-    requires pure { IsPure problem.now }
-    requires of_bank { IsOfBank problem.now bank.now }
+    requires posed { IsPosed problem.now bank.now }
     requires limit { budget ≤ 2 ^ 40 }
     requires about { IsOf problem.now budget tree.old }
     requires idle { IsIdle tree.old }
@@ -110,7 +107,7 @@ fn search(
     Err(Memory)
 }
 
-/// A just verdict on a well-sorted problem of sets without inequalities and Int terms, whose assertions are the bank's, with at most `budget` steps on each branch, 1 to 2^40: values that make the problem true, a derivation that refutes it, or the tree of which some branch has spent its budget on different steps. The only error is want of memory.
+/// A just verdict on a well-sorted problem of sets without inequalities, Int terms and cards, which is that of assertions of the bank, with at most `budget` steps on each branch, 1 to 2^40: values that make the problem true, a derivation that refutes it, or the tree of which some branch has spent its budget on different steps. The only error is want of memory.
 ///
 /// The search is that of Davis, Logemann and Loveland, "A Machine Program for Theorem-Proving" (1962), on formulas rather than clauses: signs spread to parts and from parts to formulas, and cuts on a formula's sign where they spread no further.
 pub fn decide_alone(
@@ -119,8 +116,7 @@ pub fn decide_alone(
     bank: &Bank,
     budget: u64,
 ) -> Result<Verdict, Memory>
-    requires pure { IsPure problem.now }
-    requires of_bank { IsOfBank problem.now bank.now }
+    requires posed { IsPosed problem.now bank.now }
     requires limit { budget ≤ 2 ^ 40 }
     ensures { IfOk result (IsJust problem.now budget) }
 {

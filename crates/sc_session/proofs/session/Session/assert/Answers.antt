@@ -13,14 +13,12 @@ returns-in-Ok c = λ b. is_asserted c.args.self.now (state c.self.inside.bank c.
 pub invariant_of-self : goal.invariant_of-self
 invariant_of-self c =
     let before = state_of c.self.inside.bank c.self.inside.stack in
-    let pure = c.elaboration_stays_pure.ensures.pure_done (shape c.args.term.now) before c.in-Ok.formula c.elaborate.new.bank c.self.invariant.pure c.in-Ok.ensures.exact in
-    let sorted = c.elaboration_stays_pure.ensures.sorted_done (shape c.args.term.now) before c.in-Ok.formula c.elaborate.new.bank c.tell.ensures.bank c.self.invariant.well_sorted c.in-Ok.ensures.exact in
-    sorted_bank c.self.inside.bank c.elaborate.new.bank c.self.inside.stack c.in-Ok.ensures.begins pure sorted c.in-Ok.ensures.has_sorts c.self.invariant
+    let posed = c.elaboration_keeps_posed.ensures.done (shape c.args.term.now) before c.in-Ok.formula c.elaborate.new.bank c.tell.ensures.bank c.self.invariant.posed c.in-Ok.ensures.exact in
+    sorted_bank c.self.inside.bank c.elaborate.new.bank c.self.inside.stack c.in-Ok.ensures.begins posed c.self.invariant
 
 pub invariant_of-self-in-Err-Fault : goal.invariant_of-self-in-Err-Fault
 invariant_of-self-in-Err-Fault c =
     let before = state_of c.self.inside.bank c.self.inside.stack in
     let exact = subst (λ e. Answers (core (shape c.args.term.now) before) (Err e) c.elaborate.new.bank) c.in-Err-Fault.field-0-is c.in-Err-Fault.ensures.exact in
-    let pure = c.elaboration_stays_pure.ensures.pure_fault (shape c.args.term.now) before c.in-Err-Fault.code c.elaborate.new.bank c.self.invariant.pure exact in
-    let sorted = c.elaboration_stays_pure.ensures.sorted_fault (shape c.args.term.now) before c.in-Err-Fault.code c.elaborate.new.bank c.tell.ensures.bank c.self.invariant.well_sorted exact in
-    sorted_bank c.self.inside.bank c.elaborate.new.bank c.self.inside.stack c.in-Err-Fault.ensures.begins pure sorted c.in-Err-Fault.ensures.has_sorts c.self.invariant
+    let posed = c.elaboration_keeps_posed.ensures.fault (shape c.args.term.now) before c.in-Err-Fault.code c.elaborate.new.bank c.tell.ensures.bank c.self.invariant.posed exact in
+    sorted_bank c.self.inside.bank c.elaborate.new.bank c.self.inside.stack c.in-Err-Fault.ensures.begins posed c.self.invariant
