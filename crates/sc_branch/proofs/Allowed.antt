@@ -35,11 +35,11 @@ use Rattle.sc_branch.specs.Growing.{Held, IsOn, IsHeldAfter, Growth, IsGrown, Go
 use Rattle.sc_branch.proofs.Steps.{path_keeps}
 
 -- ---- growing
-abbrev pub held : Growth → Held
-held g = record { path = g.path; steps = g.steps }
+abbrev pub held : Parts → Growth → Held
+held about g = record { problem = about; path = g.path; steps = g.steps }
 
-module _ (problem : Parts) (budget : ℕ) (h : Held) (old new rest : Growth) (chain : List Step) (is : h ≡ held old) (none : old.chain ≡ []) (on : IsOn problem budget h.path.facts h.steps) (goes : GoesOn problem budget old new) (took : chain ≡ new.chain) (left : rest ≡ record { path = new.path; steps = new.steps; chain = [] }) where
-  start : IsGrown problem budget (held old) old
+module _ (problem : Parts) (budget : ℕ) (about : Parts) (h : Held) (old new rest : Growth) (chain : List Step) (is : h ≡ held about old) (none : old.chain ≡ []) (on : IsOn problem budget h.path.facts h.steps) (goes : GoesOn problem budget old new) (took : chain ≡ new.chain) (left : rest ≡ record { path = new.path; steps = new.steps; chain = [] }) where
+  start : IsGrown problem budget (held about old) old
   start = record {
     on = subst (λ x. IsOn problem budget x.path.facts x.steps) is on;
     grown = ap (grow problem old.path.facts) none;
@@ -47,8 +47,8 @@ module _ (problem : Parts) (budget : ℕ) (h : Held) (old new rest : Growth) (ch
     steps = sym (append-nil old.steps) ∙ ap (λ c. old.steps ++ firsts c) (sym none);
   }
 
-  after : IsGrown problem budget (held old) new
-  after = goes (held old) start
+  after : IsGrown problem budget (held about old) new
+  after = goes (held about old) start
 
   pub taken_allowed : chain ≢ [] → AllowsOn problem budget h.path.facts h.steps (events.Grow chain)
   taken_allowed some =
@@ -56,18 +56,18 @@ module _ (problem : Parts) (budget : ℕ) (h : Held) (old new rest : Growth) (ch
       let grown : grow problem h.path.facts chain ≡ Some new.path.facts = ap (grow problem h.path.facts) took ∙ (ap (λ x. grow problem x.path.facts new.chain) is ∙ after.grown) in
       (some, ap is_some grown, subst (IsWithin problem budget) steps after.on.within)
 
-  pub taken_held : IsHeldAfter problem h (events.Grow chain) (held rest)
+  pub taken_held : IsHeldAfter problem h (events.Grow chain) (held about rest)
   taken_held =
-      subst (λ r. IsHeldAfter problem h (events.Grow chain) (held r)) (sym left)
-      (subst (λ x. IsHeldAfter problem x (events.Grow chain) (held new)) (sym is) (subst (λ c. IsHeldAfter problem (held old) (events.Grow c) (held new)) (sym took) (after.grown, after.path, after.steps)))
+      subst (λ r. IsHeldAfter problem h (events.Grow chain) (held about r)) (sym left)
+      (subst (λ x. IsHeldAfter problem x (events.Grow chain) (held about new)) (sym is) (subst (λ c. IsHeldAfter problem (held about old) (events.Grow c) (held about new)) (sym took) (after.grown, after.path, after.steps, refl)))
 
-  pub nothing_held : chain ≡ [] → held rest ≡ h
+  pub nothing_held : chain ≡ [] → held about rest ≡ h
   nothing_held nothing =
       let empty : new.chain ≡ [] = sym took ∙ nothing in
       let facts : new.path.facts ≡ old.path.facts = let same : Some old.path.facts ≡ Some new.path.facts = ap (grow problem old.path.facts) (sym empty) ∙ after.grown in cc in
       let path : new.path ≡ old.path = after.path ∙ ap (with_facts old.path) facts in
       let steps : new.steps ≡ old.steps = after.steps ∙ (ap (λ c. old.steps ++ firsts c) empty ∙ append-nil old.steps) in
-      ap held left ∙ ((λ i. record { path = path i; steps = steps i }) ∙ sym is)
+      ap (held about) left ∙ ((λ i. record { problem = about; path = path i; steps = steps i }) ∙ sym is)
 
 pub no_items : {X : Type 0} (xs : List X) (b : Bool) → (IsTrue b → length xs ≡ 0) → b ≡ true → xs ≡ []
 no_items [] b h e = refl

@@ -16,8 +16,9 @@ use Rattle.sc_tree.specs.declared.machine.Event.TheVariants as events
 use Rattle.sc_tree.specs.Chains.{taken, grow, firsts}
 use Rattle.sc_tree.specs.Lean.{IsWithin}
 
--- a path, and the steps that lead to it from the root path
+-- a path of a problem, and the steps that lead to it from the root path
 pub record Held : Type 0 where
+  pub problem : Parts
   pub path : PathFacts
   pub steps : List Taken
 
@@ -28,7 +29,7 @@ pub record IsOn (problem : Parts) (budget : ℕ) (path : List Fact) (steps : Lis
 
 -- what a branch holds after an event: after steps of one branch each their path, and otherwise what it held
 abbrev pub IsHeldAfter : Parts → Held → Event → Held → Type 0
-IsHeldAfter problem old (events.Grow chain) new = (grow problem old.path.facts chain ≡ Some new.path.facts) × (new.path ≡ with_facts old.path new.path.facts) × (new.steps ≡ old.steps ++ firsts chain)
+IsHeldAfter problem old (events.Grow chain) new = (grow problem old.path.facts chain ≡ Some new.path.facts) × (new.path ≡ with_facts old.path new.path.facts) × (new.steps ≡ old.steps ++ firsts chain) × (new.problem ≡ old.problem)
 IsHeldAfter problem old event new = new ≡ old
 
 -- a path, its steps, and those of them that were taken last

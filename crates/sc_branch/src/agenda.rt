@@ -39,43 +39,13 @@ fn news_of(fact: &Fact) -> News {
     }
 }
 
-/// What of a path was followed up, and what is needed to follow up the rest.
+/// How far a path was followed up.
 #[derive(Drop)]
 pub(crate) struct Agenda {
-    /// The formulas of which each formula is a part, by its number less 1.
-    parents: Vec<Vec<u32>>,
-    /// How many parts of each `and` are not known to be true, and of each `or` not known to be false.
+    /// How many parts of each `and` are not known to be true, and of each `or` not known to be false, by its number less 1.
     lacking: Vec<u32>,
     /// How many facts of the path were followed up.
     done: usize,
-}
-
-/// Notes that a formula is a part of another.
-fn note(parents: &mut Vec<Vec<u32>>, part: u32, parent: u32) -> Result<(), Memory> {
-    if part == 0 {
-        return Ok(());
-    }
-    if let Some(list) = parents.get_mut(part as usize - 1) {
-        list.push(parent)?;
-    }
-    Ok(())
-}
-
-fn note_all(parents: &mut Vec<Vec<u32>>, parts: &[u32], parent: u32) -> Result<(), Memory> {
-    for part in parts {
-        note(parents, *part, parent)?;
-    }
-    Ok(())
-}
-
-/// Notes the parts of a formula.
-fn note_parts(parents: &mut Vec<Vec<u32>>, node: &Formula, parent: u32) -> Result<(), Memory> {
-    match node {
-        Formula::Not(f) => note(parents, *f, parent),
-        Formula::And(parts) | Formula::Or(parts) => note_all(parents, parts.as_slice(), parent),
-        Formula::Iff(f, g) => note_all(parents, &[*f, *g], parent),
-        _ => Ok(()),
-    }
 }
 
 /// How many parts an `and` or an `or` has.
@@ -91,22 +61,11 @@ fn count_of(node: &Formula) -> u32 {
 impl Agenda {
     /// Nothing was followed up yet.
     pub(crate) fn new(alloc: Global, problem: &Problem) -> Result<Agenda, Memory> {
-        let count = problem.counts().formulas;
-        let mut parents = Vec::new(alloc);
-        for _ in 0..count {
-            parents.push(Vec::new(alloc))?;
-        }
         let mut lacking = Vec::new(alloc);
-        for place in 0..count {
-            let node = problem.formula(place + 1);
-            note_parts(&mut parents, node, place + 1)?;
-            lacking.push(count_of(node))?;
+        for place in 0..problem.counts().formulas {
+            lacking.push(count_of(problem.formula(place + 1)))?;
         }
-        Ok(Agenda {
-            parents,
-            lacking,
-            done: 0,
-        })
+        Ok(Agenda { lacking, done: 0 })
     }
 
     /// Whether nothing was followed up yet.
@@ -123,28 +82,6 @@ impl Agenda {
             return Some(news_of(fact));
         }
         Some(News::Nothing)
-    }
-
-    /// How often a formula stands as a part of another.
-    pub(crate) fn count(&self, formula: u32) -> usize {
-        if formula == 0 {
-            return 0;
-        }
-        match self.parents.get(formula as usize - 1) {
-            Some(list) => list.len(),
-            None => 0,
-        }
-    }
-
-    /// One of the formulas of which a formula is a part, or 0 past the last.
-    pub(crate) fn parent(&self, formula: u32, index: usize) -> u32 {
-        if formula == 0 {
-            return 0;
-        }
-        match self.parents.get(formula as usize - 1) {
-            Some(list) => list.get(index).copied().unwrap_or(0),
-            None => 0,
-        }
     }
 
     /// How many parts of an `and` are not known to be true, or of an `or` not known to be false.

@@ -1,18 +1,22 @@
 //! A branch of the search.
 
-ghost use Rattle.std.specs.Prelude.{◌≡◌, ◌<◌, length, IfOk, IfSome};
+ghost use Rattle.std.specs.Prelude.{◌≡◌, ◌<◌, length, IfOk, OnOk, OnErr, IfSome};
 ghost use Rattle.sc_sorts.specs.Posed.{IsOfScript, IsIntless, IsPosed};
 ghost use Rattle.sc_terms.specs.Values.{Shows};
 ghost use Rattle.sc_model.specs.Deciding.{Concludes, Divides};
 ghost use Rattle.sc_tree.specs.Events.{AllowsOn, HasNoClash};
 ghost use Rattle.sc_branch.specs.Growing.{IsHeldAfter, IsOn};
 
-use crate::candidate::guessed_candidate;
+use crate::candidate::{Tried, values_of};
 use crate::growth::Growing;
-use crate::guess::{Guessed, Stuck, guess};
+use crate::guess::Stuck;
 use crate::labels::labelled;
 use crate::refine::{needed_split, useful_split};
+use crate::seen::Seen;
+use crate::shadow::shadow_of;
 use crate::spread::{Tables, spread};
+use crate::task::{Fixed, Task};
+use crate::trials::Trials;
 use sc_deriv::{Closing, Step, Steps};
 use sc_facts::Path;
 use sc_model::{Due, first_due, model_of};
@@ -21,12 +25,17 @@ use sc_terms::{Bank, Interp, Memory, Problem};
 use sc_tree::{Cause, Event};
 use std::alloc::Global;
 use std::marker::Model;
+use std::snapshot::Snapshot;
 
-/// A path of a problem, with the steps that lead to it; seen as these two.
+/// A path of a problem, with the steps that lead to it; seen as the problem, the path and the steps.
 #[derive(Drop)]
 pub struct Branch {
+    about: Snapshot<Problem>,
+    alloc: Global,
     growing: Growing,
+    fixed: Fixed,
     tables: Tables,
+    trials: Trials,
 }
 
 impl Model for Branch {
@@ -35,37 +44,63 @@ impl Model for Branch {
 
     ghost Value = { Held };
 
-    ghost view = { λ b. record { path = b.growing.path; steps = b.growing.steps } };
+    ghost view = { λ b. record { problem = b.about.value; path = b.growing.path; steps = b.growing.steps } };
 
     ghost invariant = { λ b. b.growing.chain ≡ [] };
 }
 
 impl Branch {
-    /// The branch with this path, to which the steps lead from the root path. The only error is want of memory. The time is linear in the sizes of the problem and the path.
+    /// The branch with this path of the problem, to which the steps lead from the root path. The only error is want of memory. The time is linear in the sizes of the problem and the path.
     pub fn from_path(
         alloc: Global,
         problem: &Problem,
         path: Path,
         steps: Steps,
     ) -> Result<Branch, Memory>
-        ensures { IfOk result (λ branch. branch ≡ record { path = path; steps = steps }) }
+        ensures { IfOk result (λ branch. branch ≡ record { problem = problem.now; path = path; steps = steps }) }
     {
         Ok(Branch {
-            growing: Growing::new(alloc, path, steps)?,
+            about: Snapshot::of(problem),
+            alloc,
+            fixed: Fixed::new(alloc, problem)?,
             tables: Tables::new(alloc, problem)?,
+            trials: Trials::new(&steps),
+            growing: Growing::new(alloc, path, steps)?,
         })
+    }
+
+    /// Goes over to another path of the branch's problem, to which these steps lead from the root path. What was found out of the problem is kept. The only error is want of memory, after which the branch is as before.
+    pub fn change(&mut self, problem: &Problem, path: Path, steps: Steps) -> Result<(), Memory>
+        requires about { self.old.problem ≡ problem.now }
+        ensures ok { OnOk result (self.new ≡ record { problem = self.old.problem; path = path; steps = steps }) }
+        ensures err { OnErr result (self.new ≡ self.old) }
+    {
+        let tables = Tables::new(self.alloc, problem)?;
+        let trials = self.trials.at(&steps);
+        let growing = Growing::new(self.alloc, path, steps)?;
+        self.tables = tables;
+        self.trials = trials;
+        self.growing = growing;
+        Ok(())
+    }
+
+    /// What the path says.
+    fn seen<'a>(&'a self, problem: &'a Problem) -> Seen<'a>
+        ensures { result.problem.now ≡ problem.now }
+    {
+        Seen {
+            problem,
+            fixed: &self.fixed,
+            path: self.growing.path(),
+            said: &self.tables.said,
+        }
     }
 
     /// What may be done at a leaf with this path, so that the search goes on: the leaf is closed where a clash stands on the path. Else the path goes on by steps that each conclude a new fact. Else, where the values that are read off the path, with guesses of the memberships that it leaves open, make every assertion true, they are found. Else the leaf is split: by a cut on a formula or a membership, or on which of two different sets has their differing element. A path on which nothing is due has a model.
     ///
-    /// `bank` has the nodes of which the problem is made: the assertions are tried there. `budget` is the greatest number of steps on a path; the leaf is given up only where the path has so many, no clash stands, and the values that are read off it do not do. The only error is want of memory, after which the branch is of no further use.
-    pub fn advance(
-        &mut self,
-        alloc: Global,
-        problem: &Problem,
-        bank: &Bank,
-        budget: u64,
-    ) -> Result<Event, Memory>
+    /// `bank` has the nodes of which the problem is made: the assertions are tried there. `problem` is the one with which the branch was made, and `budget` the greatest number of steps on a path; the leaf is given up only where the path has so many, no clash stands, and the values that are read off it with all that follows, and with guesses of what is open, do not do. The only error is want of memory, after which the branch is of no further use.
+    pub fn advance(&mut self, problem: &Problem, bank: &Bank, budget: u64) -> Result<Event, Memory>
+        requires about { self.old.problem ≡ problem.now }
         requires posed { IsPosed problem.now bank.now }
         requires on { IsOn problem.now budget self.old.path.facts self.old.steps }
         ensures allowed { IfOk result (AllowsOn problem.now budget self.old.path.facts self.old.steps) }
@@ -74,72 +109,91 @@ impl Branch {
         if let Some(name) = self.growing.clash() {
             return Ok(Event::Close(Closing::Clash(name.clone()?)));
         }
-        let spread = spread(&mut self.growing, &mut self.tables, alloc, problem, budget);
-        let chain = self.growing.take_chain(alloc);
+        let task = Task {
+            alloc: self.alloc,
+            problem,
+            fixed: &self.fixed,
+            budget,
+        };
+        let spread = spread(&mut self.growing, &mut self.tables, task);
+        let chain = self.growing.take_chain(self.alloc);
         spread?;
         if !chain.is_empty() {
             return Ok(Event::Grow(chain));
         }
-        let event = self.decide(alloc, problem, bank, budget)?;
+        let event = self.decide(problem, bank, budget)?;
         Ok(event)
     }
 
     /// What may be done at a leaf with this path, on which no clash stands.
-    fn decide(
-        &mut self,
-        alloc: Global,
-        problem: &Problem,
-        bank: &Bank,
-        budget: u64,
-    ) -> Result<Event, Memory>
+    fn decide(&mut self, problem: &Problem, bank: &Bank, budget: u64) -> Result<Event, Memory>
+        requires about { self.old.problem ≡ problem.now }
         requires posed { IsPosed problem.now bank.now }
         requires on { IsOn problem.now budget self.old.path.facts self.old.steps }
         requires apart { HasNoClash self.old.path.facts }
         ensures allowed { IfOk result (AllowsOn problem.now budget self.old.path.facts self.old.steps) }
         ensures held { IfOk result (λ event. IsHeldAfter problem.now self.old event self.new) }
     {
-        let needed = needed_split(&self.growing, &self.tables, alloc, problem)?;
+        let needed = needed_split(&self.growing, self.seen(problem), self.alloc)?;
+        let full = self.growing.len() as u64 >= budget;
         let mut stuck = None;
         if needed.is_none() {
-            let guessed = guess(alloc, problem, self.growing.path(), &self.tables)?;
-            stuck = guessed.stuck;
-            if let Some(values) = self.values(alloc, problem, bank, &guessed)? {
+            let tried = self.values(problem, bank)?;
+            stuck = tried.stuck;
+            if let Some(values) = tried.values {
                 return Ok(Event::Found(values));
             }
         }
-        if self.growing.len() as u64 >= budget {
+        if self.trials.begin(full) {
+            if let Some(values) = self.shadow_values(problem, bank, full)? {
+                return Ok(Event::Found(values));
+            }
+        }
+        if full {
             return Ok(Event::Spend(Cause::Budget));
         }
-        match self.split(alloc, problem, needed, stuck)? {
+        match self.split(problem, needed, stuck)? {
             Some(step) => Ok(self.split_by(problem, budget, step)),
-            None => self.settle(alloc, problem, budget),
+            None => self.settle(problem, budget),
         }
     }
 
-    /// The values that are read off the path with what was guessed beside it, where they make the problem true; nothing where the memberships of some element could not be guessed.
-    fn values(
+    /// The values that are read off the path with guesses of memberships beside it, where they make the problem true.
+    fn values(&self, problem: &Problem, bank: &Bank) -> Result<Tried, Memory>
+        requires posed { IsPosed problem.now bank.now }
+        ensures { IfOk result (λ tried. IfSome tried.values (Shows problem.now)) }
+    {
+        let found = values_of(self.alloc, bank, self.seen(problem))?;
+        Ok(found)
+    }
+
+    /// The values that are read off the path with all that follows from it, without any limit on steps, with guesses beside it, where they make the problem true. Signs of open formulas are guessed where the leaf is full or a split leads to it.
+    fn shadow_values(
         &self,
-        alloc: Global,
         problem: &Problem,
         bank: &Bank,
-        guessed: &Guessed,
+        full: bool,
     ) -> Result<Option<Interp>, Memory>
         requires posed { IsPosed problem.now bank.now }
         ensures { IfOk result (λ values. IfSome values (Shows problem.now)) }
     {
-        if guessed.stuck.is_some() {
+        let task = Task {
+            alloc: self.alloc,
+            problem,
+            fixed: &self.fixed,
+            budget: u64::MAX,
+        };
+        let signs = self.trials.may_guess(full);
+        let Some(shadow) = shadow_of(task, self.growing.path(), signs)? else {
             return Ok(None);
-        }
-        let path = self.growing.path();
-        let said = &self.tables.said;
-        let found = guessed_candidate(alloc, problem, bank, path, said, &guessed.members)?;
-        Ok(found)
+        };
+        let found = values_of(self.alloc, bank, shadow.seen(task))?;
+        Ok(found.values)
     }
 
     /// A split that looks useful, where there is one: the needed one, or else one on a membership, of the element whose memberships could not be guessed, if there is one.
     fn split(
         &self,
-        alloc: Global,
         problem: &Problem,
         needed: Option<PlainStep>,
         stuck: Option<Stuck>,
@@ -148,12 +202,12 @@ impl Branch {
     {
         let proposed = match needed {
             Some(step) => Some(step),
-            None => useful_split(self.growing.path(), &self.tables, alloc, problem, stuck)?,
+            None => useful_split(self.seen(problem), self.alloc, stuck)?,
         };
         let Some(step) = proposed else {
             return Ok(None);
         };
-        if self.growing.can_split(alloc, problem, &step)? {
+        if self.growing.can_split(self.alloc, problem, &step)? {
             return Ok(Some(step));
         }
         Ok(None)
@@ -171,7 +225,7 @@ impl Branch {
     }
 
     /// What is due on the path; where nothing is, the values that are read off it are found.
-    fn settle(&mut self, alloc: Global, problem: &Problem, budget: u64) -> Result<Event, Memory>
+    fn settle(&mut self, problem: &Problem, budget: u64) -> Result<Event, Memory>
         requires script { IsOfScript problem.now }
         requires intless { IsIntless problem.now }
         requires on { IsOn problem.now budget self.old.path.facts self.old.steps }
@@ -181,33 +235,27 @@ impl Branch {
         ensures held { IfOk result (λ event. IsHeldAfter problem.now self.old event self.new) }
     {
         let path = self.growing.path();
-        let (classes, labels) = labelled(alloc, problem, path)?;
-        match first_due(alloc, problem, path, &classes, labels.as_slice())? {
+        let (classes, labels) = labelled(self.alloc, problem, path)?;
+        match first_due(self.alloc, problem, path, &classes, labels.as_slice())? {
             None => {
-                let values = model_of(alloc, problem, path, labels.as_slice())?;
+                let values = model_of(self.alloc, problem, path, labels.as_slice())?;
                 Ok(Event::Found(values))
             }
             Some(Due::Split(step)) => Ok(self.split_by(problem, budget, step)),
-            Some(Due::Take(step)) => self.take(alloc, problem, budget, step),
+            Some(Due::Take(step)) => self.take(problem, budget, step),
         }
     }
 
     /// The path goes on by a step that concludes a new fact.
-    fn take(
-        &mut self,
-        alloc: Global,
-        problem: &Problem,
-        budget: u64,
-        step: PlainStep,
-    ) -> Result<Event, Memory>
+    fn take(&mut self, problem: &Problem, budget: u64, step: PlainStep) -> Result<Event, Memory>
         requires on { IsOn problem.now budget self.old.path.facts self.old.steps }
         requires concludes { Concludes problem.now self.old.path.facts step }
         requires room { length self.old.steps < budget }
         ensures allowed { IfOk result (AllowsOn problem.now budget self.old.path.facts self.old.steps) }
         ensures held { IfOk result (λ event. IsHeldAfter problem.now self.old event self.new) }
     {
-        let attempt = self.growing.attempt(alloc, problem, budget, step);
-        let chain = self.growing.take_chain(alloc);
+        let attempt = self.growing.attempt(self.alloc, problem, budget, step);
+        let chain = self.growing.take_chain(self.alloc);
         attempt?;
         Ok(Event::Grow(chain))
     }

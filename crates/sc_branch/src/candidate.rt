@@ -6,7 +6,9 @@ ghost use Rattle.sc_terms.specs.BankValues.{bank_meaning};
 ghost use Rattle.sc_terms.specs.Values.{interpretation_of, Shows};
 ghost use Rattle.sc_branch.specs.Tried.{IsRight};
 
+use crate::guess::{Stuck, guess};
 use crate::said::Said;
+use crate::seen::Seen;
 use sc_facts::{Fact, Path};
 use sc_meaning::{EvalError, all_true};
 use sc_model::{model_of, read_off_values_show};
@@ -60,22 +62,36 @@ fn with_members(path: &Path, members: &[(u32, u32)]) -> Result<Path, Memory> {
     Ok(more)
 }
 
-/// The values that are read off the path with memberships that were guessed beside it, where they make the problem true.
-pub(crate) fn guessed_candidate(
-    alloc: Global,
-    problem: &Problem,
-    bank: &Bank,
-    path: &Path,
-    said: &Said,
-    members: &[(u32, u32)],
-) -> Result<Option<Interp>, Memory>
-    requires posed { IsPosed problem.now bank.now }
-    ensures { IfOk result (λ values. IfSome values (Shows problem.now)) }
+/// The values that were tried, where they make the problem true, and the first element whose memberships could not be guessed.
+#[derive(Drop)]
+pub(crate) struct Tried {
+    pub values: Option<Interp>,
+    pub stuck: Option<Stuck>,
+}
+
+/// The values that are read off a path with memberships that are guessed beside it, where they make the problem true; none where the memberships of some element cannot be guessed.
+pub(crate) fn values_of(alloc: Global, bank: &Bank, seen: Seen<'_>) -> Result<Tried, Memory>
+    requires posed { IsPosed seen.problem.now bank.now }
+    ensures { IfOk result (λ tried. IfSome tried.values (Shows seen.entry.problem.now)) }
 {
-    if members.is_empty() {
-        return candidate(alloc, problem, bank, path, said);
+    let guessed = guess(alloc, seen)?;
+    if guessed.stuck.is_some() {
+        return Ok(Tried {
+            values: None,
+            stuck: guessed.stuck,
+        });
     }
-    let more = with_members(path, members)?;
-    let found = candidate(alloc, problem, bank, &more, said)?;
-    Ok(found)
+    if guessed.members.is_empty() {
+        let values = candidate(alloc, seen.problem, bank, seen.path, seen.said)?;
+        return Ok(Tried {
+            values,
+            stuck: None,
+        });
+    }
+    let more = with_members(seen.path, &guessed.members)?;
+    let values = candidate(alloc, seen.problem, bank, &more, seen.said)?;
+    Ok(Tried {
+        values,
+        stuck: None,
+    })
 }

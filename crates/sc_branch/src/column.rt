@@ -1,8 +1,7 @@
 //! The column of an element: whether it is in each set term, by what a path says, what follows, and guesses. What is guessed here is only tried, so a wrong guess costs time alone.
 
 use crate::joins::{Join, Place, join_of};
-use crate::said::Said;
-use crate::spread::Tables;
+use crate::seen::Seen;
 use sc_terms::{Memory, Problem, SetTerm};
 use std::alloc::Global;
 
@@ -112,40 +111,35 @@ impl Column {
     }
 
     /// Whether the element is in a set term, where that is known: no element is in the empty set, and different classes of elements are kept apart.
-    fn is_inside(&self, problem: &Problem, said: &Said, set: u32) -> Option<bool> {
-        match problem.find_set(set) {
+    fn is_inside(&self, seen: Seen<'_>, set: u32) -> Option<bool> {
+        match seen.problem.find_set(set) {
             Some(SetTerm::Empty(_)) => Some(false),
-            Some(SetTerm::Single(element)) => Some(said.label(*element) == self.element),
+            Some(SetTerm::Single(element)) => Some(seen.said.label(*element) == self.element),
             _ => self.entry(set),
         }
     }
 
     /// Whether this holds of the element, where that is known.
-    fn holds(&self, problem: &Problem, said: &Said, place: Place) -> Option<bool> {
-        let inside = self.is_inside(problem, said, place.set)?;
+    fn holds(&self, seen: Seen<'_>, place: Place) -> Option<bool> {
+        let inside = self.is_inside(seen, place.set)?;
         Some(inside == place.inside)
     }
 
     /// Notes that a clash came at a set, if it is a set of one of which the path says nothing.
-    fn note_single(&mut self, problem: &Problem, set: u32) {
+    fn note_single(&mut self, seen: Seen<'_>, set: u32) {
         if self.single.is_some() || self.entry(set).is_some() {
             return;
         }
-        if let Some(SetTerm::Single(_)) = problem.find_set(set) {
+        if let Some(SetTerm::Single(_)) = seen.problem.find_set(set) {
             self.single = Some(set);
         }
     }
 
     /// Notes that this holds of the element.
-    pub(crate) fn put(
-        &mut self,
-        problem: &Problem,
-        said: &Said,
-        place: Place,
-    ) -> Result<(), Memory> {
-        if self.holds(problem, said, place) == Some(false) {
+    pub(crate) fn put(&mut self, seen: Seen<'_>, place: Place) -> Result<(), Memory> {
+        if self.holds(seen, place) == Some(false) {
             self.clash = true;
-            self.note_single(problem, place.set);
+            self.note_single(seen, place.set);
             return Ok(());
         }
         if self.entry(place.set).is_none() {
@@ -156,66 +150,66 @@ impl Column {
     }
 
     /// Notes that this does not hold of the element.
-    fn put_not(&mut self, problem: &Problem, said: &Said, place: Place) -> Result<(), Memory> {
+    fn put_not(&mut self, seen: Seen<'_>, place: Place) -> Result<(), Memory> {
         let other = Place {
             set: place.set,
             inside: !place.inside,
         };
-        self.put(problem, said, other)
+        self.put(seen, other)
     }
 
     /// Notes what follows at a term of two sets.
-    fn follow_join(&mut self, problem: &Problem, said: &Said, join: Join) -> Result<(), Memory> {
-        let first = self.holds(problem, said, join.first);
-        let second = self.holds(problem, said, join.second);
+    fn follow_join(&mut self, seen: Seen<'_>, join: Join) -> Result<(), Memory> {
+        let first = self.holds(seen, join.first);
+        let second = self.holds(seen, join.second);
         if first == Some(true) || second == Some(true) {
-            return self.put(problem, said, join.whole);
+            return self.put(seen, join.whole);
         }
         if first == Some(false) && second == Some(false) {
-            return self.put_not(problem, said, join.whole);
+            return self.put_not(seen, join.whole);
         }
-        match self.holds(problem, said, join.whole) {
+        match self.holds(seen, join.whole) {
             Some(false) => {
-                self.put_not(problem, said, join.first)?;
-                self.put_not(problem, said, join.second)
+                self.put_not(seen, join.first)?;
+                self.put_not(seen, join.second)
             }
-            Some(true) if first == Some(false) => self.put(problem, said, join.second),
-            Some(true) if second == Some(false) => self.put(problem, said, join.first),
+            Some(true) if first == Some(false) => self.put(seen, join.second),
+            Some(true) if second == Some(false) => self.put(seen, join.first),
             _ => Ok(()),
         }
     }
 
     /// Notes what follows for a set term from those that it is said to equal.
-    fn follow_equals(&mut self, problem: &Problem, said: &Said, set: u32) -> Result<(), Memory> {
+    fn follow_equals(&mut self, seen: Seen<'_>, set: u32) -> Result<(), Memory> {
         if self.entry(set).is_some() {
             return Ok(());
         }
-        for other in said.equal_sets.of(set) {
-            if let Some(inside) = self.is_inside(problem, said, *other) {
-                return self.put(problem, said, Place { set, inside });
+        for other in seen.said.equal_sets.of(set) {
+            if let Some(inside) = self.is_inside(seen, *other) {
+                return self.put(seen, Place { set, inside });
             }
         }
         Ok(())
     }
 
     /// Notes what follows at a set term; where a guess may be needed there, the term is pending.
-    fn follow_term(&mut self, problem: &Problem, said: &Said, set: u32) -> Result<(), Memory> {
-        let Some(join) = join_of(problem, set) else {
+    fn follow_term(&mut self, seen: Seen<'_>, set: u32) -> Result<(), Memory> {
+        let Some(join) = join_of(seen.problem, set) else {
             return Ok(());
         };
-        self.follow_equals(problem, said, set)?;
-        self.follow_join(problem, said, join)?;
-        if self.wanted(problem, said, join).is_some() {
+        self.follow_equals(seen, set)?;
+        self.follow_join(seen, join)?;
+        if self.wanted(seen, join).is_some() {
             self.pending.push(set)?;
         }
         Ok(())
     }
 
     /// What is to be guessed at a term of two sets, or nothing where all is known there, or nothing puts the element into its sets: that it is in the first of the two, where it is in their union, and else that it is not in the open one of the two.
-    fn wanted(&self, problem: &Problem, said: &Said, join: Join) -> Option<Place> {
-        let whole = self.is_inside(problem, said, join.whole.set);
-        let first = self.is_inside(problem, said, join.first.set);
-        let second = self.is_inside(problem, said, join.second.set);
+    fn wanted(&self, seen: Seen<'_>, join: Join) -> Option<Place> {
+        let whole = self.is_inside(seen, join.whole.set);
+        let first = self.is_inside(seen, join.first.set);
+        let second = self.is_inside(seen, join.second.set);
         match (whole, first, second) {
             (Some(true), None, None) => Some(Place {
                 set: join.first.set,
@@ -234,21 +228,20 @@ impl Column {
     }
 
     /// Notes what follows from the entry of a set term.
-    fn follow(&mut self, problem: &Problem, tables: &Tables, set: u32) -> Result<(), Memory> {
+    fn follow(&mut self, seen: Seen<'_>, set: u32) -> Result<(), Memory> {
         let Some(inside) = self.entry(set) else {
             return Ok(());
         };
-        let said = &tables.said;
-        self.follow_term(problem, said, set)?;
-        for other in said.equal_sets.of(set) {
+        self.follow_term(seen, set)?;
+        for other in seen.said.equal_sets.of(set) {
             let place = Place {
                 set: *other,
                 inside,
             };
-            self.put(problem, said, place)?;
+            self.put(seen, place)?;
         }
-        for parent in tables.terms.parents(set) {
-            self.follow_term(problem, said, *parent)?;
+        for parent in seen.fixed.terms.parents(set) {
+            self.follow_term(seen, *parent)?;
         }
         Ok(())
     }
@@ -262,7 +255,7 @@ impl Column {
     }
 
     /// Notes what follows, until nothing more does, or a clash is found.
-    fn spread(&mut self, problem: &Problem, tables: &Tables) -> Result<(), Memory> {
+    fn spread(&mut self, seen: Seen<'_>) -> Result<(), Memory> {
         for _ in 0..u64::MAX {
             if self.clash {
                 return Ok(());
@@ -270,18 +263,18 @@ impl Column {
             let Some(set) = self.next() else {
                 return Ok(());
             };
-            self.follow(problem, tables, set)?;
+            self.follow(seen, set)?;
         }
         Ok(())
     }
 
     /// What is to be guessed next, or nothing where no guess is needed.
-    fn next_wanted(&mut self, problem: &Problem, said: &Said) -> Option<Place> {
+    fn next_wanted(&mut self, seen: Seen<'_>) -> Option<Place> {
         for _ in 0..u64::MAX {
             let place = self.settled;
             let set = *self.pending.get(place)?;
-            if let Some(join) = join_of(problem, set) {
-                let wanted = self.wanted(problem, said, join);
+            if let Some(join) = join_of(seen.problem, set) {
+                let wanted = self.wanted(seen, join);
                 if wanted.is_some() {
                     return wanted;
                 }
@@ -292,13 +285,13 @@ impl Column {
     }
 
     /// Guesses on until no guess is needed, which is told, or a clash is found.
-    fn guess_on(&mut self, problem: &Problem, tables: &Tables) -> Result<bool, Memory> {
+    fn guess_on(&mut self, seen: Seen<'_>) -> Result<bool, Memory> {
         for _ in 0..u64::MAX {
-            self.spread(problem, tables)?;
+            self.spread(seen)?;
             if self.clash {
                 return Ok(false);
             }
-            let Some(place) = self.next_wanted(problem, &tables.said) else {
+            let Some(place) = self.next_wanted(seen) else {
                 return Ok(true);
             };
             self.guesses.push(Guess {
@@ -307,13 +300,13 @@ impl Column {
                 pending: self.pending.len(),
                 settled: self.settled,
             })?;
-            self.put(problem, &tables.said, place)?;
+            self.put(seen, place)?;
         }
         Ok(false)
     }
 
     /// Takes the last guess back, and notes that it does not hold; tells whether there was one.
-    fn take_back(&mut self, problem: &Problem, said: &Said) -> Result<bool, Memory> {
+    fn take_back(&mut self, seen: Seen<'_>) -> Result<bool, Memory> {
         let Some(guess) = self.guesses.pop() else {
             return Ok(false);
         };
@@ -322,17 +315,17 @@ impl Column {
         self.pending.truncate(guess.pending);
         self.settled = guess.settled;
         self.clash = false;
-        self.put_not(problem, said, guess.place)?;
+        self.put_not(seen, guess.place)?;
         Ok(true)
     }
 
     /// Completes the column by guesses, and tells whether that could be done: then the set terms that still have no entry do without the element.
-    pub(crate) fn complete(&mut self, problem: &Problem, tables: &Tables) -> Result<bool, Memory> {
+    pub(crate) fn complete(&mut self, seen: Seen<'_>) -> Result<bool, Memory> {
         for _ in 0..MOST_RETURNS {
-            if self.guess_on(problem, tables)? {
+            if self.guess_on(seen)? {
                 return Ok(true);
             }
-            if !self.take_back(problem, &tables.said)? {
+            if !self.take_back(seen)? {
                 return Ok(false);
             }
         }

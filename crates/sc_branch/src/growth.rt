@@ -149,6 +149,16 @@ impl Growing {
         Ok(())
     }
 
+    /// Adds a fact that no step concludes: the steps no longer lead to the path. For paths beside the search's own.
+    pub(crate) fn assume(&mut self, fact: Fact) -> Result<(), Memory> {
+        let name = name_of(&fact)?;
+        self.path.push(fact)?;
+        if let None = &self.clash {
+            self.clash = clash_of(&self.path, name);
+        }
+        Ok(())
+    }
+
     /// Takes a step, where it concludes a new fact alone, in one branch, and the budget has room for it.
     pub(crate) fn attempt(
         &mut self,

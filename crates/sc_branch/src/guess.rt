@@ -2,9 +2,8 @@
 
 use crate::column::Column;
 use crate::joins::Place;
-use crate::said::Said;
-use crate::spread::Tables;
-use sc_facts::{Fact, Path};
+use crate::seen::Seen;
+use sc_facts::Fact;
 use sc_rules::membership_of;
 use sc_terms::{Memory, Problem, SetTerm};
 use std::alloc::Global;
@@ -27,24 +26,19 @@ pub(crate) struct Guessed {
 }
 
 /// Whether the path puts an element into some set.
-fn is_in_some(path: &Path, said: &Said, element: u32) -> bool {
-    said.sets
+fn is_in_some(seen: Seen<'_>, element: u32) -> bool {
+    seen.said
+        .sets
         .of(element)
         .iter()
-        .any(|set| path.has(&Fact::Member(element, *set, true)))
+        .any(|set| seen.path.has(&Fact::Member(element, *set, true)))
 }
 
 /// Notes what the path says of an element's memberships.
-fn read(
-    column: &mut Column,
-    problem: &Problem,
-    path: &Path,
-    said: &Said,
-    element: u32,
-) -> Result<(), Memory> {
-    for set in said.sets.of(element) {
-        if let Some(inside) = membership_of(path, element, *set) {
-            column.put(problem, said, Place { set: *set, inside })?;
+fn read(column: &mut Column, seen: Seen<'_>, element: u32) -> Result<(), Memory> {
+    for set in seen.said.sets.of(element) {
+        if let Some(inside) = membership_of(seen.path, element, *set) {
+            column.put(seen, Place { set: *set, inside })?;
         }
     }
     Ok(())
@@ -73,37 +67,29 @@ fn add_members(
 fn guess_at(
     members: &mut Vec<(u32, u32)>,
     column: &mut Column,
-    problem: &Problem,
-    path: &Path,
-    tables: &Tables,
+    seen: Seen<'_>,
     element: u32,
 ) -> Result<bool, Memory> {
     column.begin(element);
-    read(column, problem, path, &tables.said, element)?;
+    read(column, seen, element)?;
     let start = column.known().len();
-    if !column.complete(problem, tables)? {
+    if !column.complete(seen)? {
         return Ok(false);
     }
-    add_members(members, column, problem, element, start)?;
+    add_members(members, column, seen.problem, element, start)?;
     Ok(true)
 }
 
 /// The memberships that are guessed beside a path, for each element by itself, up to the first where it can't be done.
 ///
 /// Each element that the path puts into some set has a column: the memberships that the path says, and what follows from them by the set operators and the equal sets. Where a term is open, the element is guessed to be in the first part of a union in which it is, and else outside the open part; a guess that leads to a clash is taken back. All other elements are in no set.
-pub(crate) fn guess(
-    alloc: Global,
-    problem: &Problem,
-    path: &Path,
-    tables: &Tables,
-) -> Result<Guessed, Memory> {
+pub(crate) fn guess(alloc: Global, seen: Seen<'_>) -> Result<Guessed, Memory> {
     let mut members = Vec::new(alloc);
-    let mut column = Column::new(alloc, problem)?;
-    for place in 0..problem.counts().elements {
+    let mut column = Column::new(alloc, seen.problem)?;
+    for place in 0..seen.problem.counts().elements {
         let element = place + 1;
-        let said = &tables.said;
-        if said.label(element) == element && is_in_some(path, said, element) {
-            if !guess_at(&mut members, &mut column, problem, path, tables, element)? {
+        if seen.said.label(element) == element && is_in_some(seen, element) {
+            if !guess_at(&mut members, &mut column, seen, element)? {
                 return Ok(Guessed {
                     members,
                     stuck: Some(Stuck {

@@ -12,9 +12,14 @@ mod joins;
 mod labels;
 mod lists;
 mod members;
+mod parents;
 mod refine;
 mod said;
+mod seen;
+mod shadow;
 mod spread;
+mod task;
 mod terms;
+mod trials;
 
 pub use branch::Branch;

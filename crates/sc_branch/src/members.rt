@@ -5,7 +5,7 @@ ghost use Rattle.sc_branch.specs.Growing.{GoesOn};
 
 use crate::growth::Growing;
 use crate::said::Said;
-use crate::terms::Terms;
+use crate::task::Task;
 use sc_rules::{PlainStep, equal_fact};
 use sc_terms::{Memory, Problem, SetTerm};
 use std::alloc::Global;
@@ -13,26 +13,20 @@ use std::alloc::Global;
 /// Tries the steps that lie between an element's membership in a set term and those in its arguments.
 pub(crate) fn attempt_at(
     growing: &mut Growing,
-    alloc: Global,
-    problem: &Problem,
-    budget: u64,
+    task: Task<'_>,
     element: u32,
     set: u32,
 ) -> Result<(), Memory>
-    ensures { OnOk result (GoesOn problem.now budget growing.old growing.new) }
+    ensures { OnOk result (GoesOn task.entry.problem.now task.entry.budget growing.old growing.new) }
 {
-    match problem.find_set(set) {
+    match task.problem.find_set(set) {
         Some(SetTerm::Union(_, _) | SetTerm::Inter(_, _) | SetTerm::Minus(_, _)) => {
-            growing.attempt(alloc, problem, budget, PlainStep::Op(element, set, 0))?;
-            growing.attempt(alloc, problem, budget, PlainStep::Op(element, set, 1))?;
-            growing.attempt(alloc, problem, budget, PlainStep::Op(element, set, 2))
+            task.attempt(growing, PlainStep::Op(element, set, 0))?;
+            task.attempt(growing, PlainStep::Op(element, set, 1))?;
+            task.attempt(growing, PlainStep::Op(element, set, 2))
         }
-        Some(SetTerm::Empty(_)) => {
-            growing.attempt(alloc, problem, budget, PlainStep::Op(element, set, 0))
-        }
-        Some(SetTerm::Single(_)) => {
-            growing.attempt(alloc, problem, budget, PlainStep::Unsingle(element, set))
-        }
+        Some(SetTerm::Empty(_)) => { task.attempt(growing, PlainStep::Op(element, set, 0)) }
+        Some(SetTerm::Single(_)) => { task.attempt(growing, PlainStep::Unsingle(element, set)) }
         _ => Ok(()),
     }
 }
@@ -41,24 +35,17 @@ pub(crate) fn attempt_at(
 fn attempt_from_equals(
     growing: &mut Growing,
     said: &Said,
-    alloc: Global,
-    problem: &Problem,
-    budget: u64,
+    task: Task<'_>,
     element: u32,
     set: u32,
 ) -> Result<(), Memory>
-    ensures { OnOk result (GoesOn problem.now budget growing.old growing.new) }
+    ensures { OnOk result (GoesOn task.entry.problem.now task.entry.budget growing.old growing.new) }
 {
     for other in said.equal_sets.of(set) {
-        if let Some(SetTerm::Empty(_)) = problem.find_set(*other) {
-            growing.attempt(alloc, problem, budget, PlainStep::Op(element, *other, 0))?;
+        if let Some(SetTerm::Empty(_)) = task.problem.find_set(*other) {
+            task.attempt(growing, PlainStep::Op(element, *other, 0))?;
         }
-        growing.attempt(
-            alloc,
-            problem,
-            budget,
-            PlainStep::Move(element, *other, set),
-        )?;
+        task.attempt(growing, PlainStep::Move(element, *other, set))?;
     }
     Ok(())
 }
@@ -67,44 +54,29 @@ fn attempt_from_equals(
 fn attempt_carry(
     growing: &mut Growing,
     said: &Said,
-    alloc: Global,
-    problem: &Problem,
-    budget: u64,
+    task: Task<'_>,
     element: u32,
     set: u32,
 ) -> Result<(), Memory>
-    ensures { OnOk result (GoesOn problem.now budget growing.old growing.new) }
+    ensures { OnOk result (GoesOn task.entry.problem.now task.entry.budget growing.old growing.new) }
 {
     let label = said.label(element);
-    join(growing, said, alloc, problem, budget, label, element)?;
-    growing.attempt(
-        alloc,
-        problem,
-        budget,
-        PlainStep::Carry(element, label, set),
-    )
+    join(growing, said, task, label, element)?;
+    task.attempt(growing, PlainStep::Carry(element, label, set))
 }
 
 /// Tries the steps that explain why two elements of one class are equal.
-fn join(
-    growing: &mut Growing,
-    said: &Said,
-    alloc: Global,
-    problem: &Problem,
-    budget: u64,
-    e: u32,
-    f: u32,
-) -> Result<(), Memory>
-    ensures { OnOk result (GoesOn problem.now budget growing.old growing.new) }
+fn join(growing: &mut Growing, said: &Said, task: Task<'_>, e: u32, f: u32) -> Result<(), Memory>
+    ensures { OnOk result (GoesOn task.entry.problem.now task.entry.budget growing.old growing.new) }
 {
     if growing.path().has(&equal_fact(e, f, true)) {
         return Ok(());
     }
-    let Some(steps) = said.explain(alloc, e, f)? else {
+    let Some(steps) = said.explain(task.alloc, e, f)? else {
         return Ok(());
     };
     for step in steps.as_slice() {
-        growing.attempt(alloc, problem, budget, step.clone()?)?;
+        task.attempt(growing, step.clone()?)?;
     }
     Ok(())
 }
@@ -113,74 +85,50 @@ fn join(
 pub(crate) fn follow_member(
     growing: &mut Growing,
     said: &mut Said,
-    terms: &Terms,
-    alloc: Global,
-    problem: &Problem,
-    budget: u64,
+    task: Task<'_>,
     element: u32,
     set: u32,
 ) -> Result<(), Memory>
-    ensures { OnOk result (GoesOn problem.now budget growing.old growing.new) }
+    ensures { OnOk result (GoesOn task.entry.problem.now task.entry.budget growing.old growing.new) }
 {
-    said.add_member(problem, element, set)?;
+    said.add_member(task.problem, element, set)?;
     if said.label(element) != element {
-        return attempt_carry(growing, said, alloc, problem, budget, element, set);
+        return attempt_carry(growing, said, task, element, set);
     }
-    attempt_at(growing, alloc, problem, budget, element, set)?;
+    attempt_at(growing, task, element, set)?;
     for other in said.equal_sets.of(set) {
-        growing.attempt(
-            alloc,
-            problem,
-            budget,
-            PlainStep::Move(element, set, *other),
-        )?;
+        task.attempt(growing, PlainStep::Move(element, set, *other))?;
     }
-    for parent in terms.parents(set) {
-        attempt_at(growing, alloc, problem, budget, element, *parent)?;
-        attempt_from_equals(growing, said, alloc, problem, budget, element, *parent)?;
+    for parent in task.fixed.terms.parents(set) {
+        attempt_at(growing, task, element, *parent)?;
+        attempt_from_equals(growing, said, task, element, *parent)?;
     }
     Ok(())
 }
 
 /// Says of the sets of one of two different elements that the other is not in them.
-fn attempt_singles(
-    growing: &mut Growing,
-    terms: &Terms,
-    alloc: Global,
-    problem: &Problem,
-    budget: u64,
-    e: u32,
-    f: u32,
-) -> Result<(), Memory>
-    ensures { OnOk result (GoesOn problem.now budget growing.old growing.new) }
+fn attempt_singles(growing: &mut Growing, task: Task<'_>, e: u32, f: u32) -> Result<(), Memory>
+    ensures { OnOk result (GoesOn task.entry.problem.now task.entry.budget growing.old growing.new) }
 {
-    for set in terms.singles(f) {
-        growing.attempt(alloc, problem, budget, PlainStep::Single(e, *set))?;
+    for set in task.fixed.terms.singles(f) {
+        task.attempt(growing, PlainStep::Single(e, *set))?;
     }
     Ok(())
 }
 
 /// Tries the steps by which the least elements of two classes differ, since two of their elements do.
-fn lift(
-    growing: &mut Growing,
-    said: &Said,
-    alloc: Global,
-    problem: &Problem,
-    budget: u64,
-    e: u32,
-    f: u32,
-) -> Result<(), Memory>
-    ensures { OnOk result (GoesOn problem.now budget growing.old growing.new) }
+fn lift(growing: &mut Growing, said: &Said, task: Task<'_>, e: u32, f: u32) -> Result<(), Memory>
+    ensures { OnOk result (GoesOn task.entry.problem.now task.entry.budget growing.old growing.new) }
 {
     let first = said.label(e);
     let second = said.label(f);
     if first != e {
-        join(growing, said, alloc, problem, budget, first, e)?;
-        growing.attempt(alloc, problem, budget, PlainStep::EqStep(first, e, f))?;
+        join(growing, said, task, first, e)?;
+        task.attempt(growing, PlainStep::EqStep(first, e, f))?;
     }
     if second != f {
-        join(growing, said, alloc, problem, budget, f, second)?;
-        growing.attempt(alloc, problem, budget, PlainStep::EqStep(first, f, second))?;
+        join(growing, said, task, f, second)?;
+        task.attempt(growing, PlainStep::EqStep(first, f, second))?;
     }
     Ok(())
 }
@@ -189,25 +137,22 @@ fn lift(
 pub(crate) fn follow_different(
     growing: &mut Growing,
     said: &mut Said,
-    terms: &Terms,
-    alloc: Global,
-    problem: &Problem,
-    budget: u64,
+    task: Task<'_>,
     e: u32,
     f: u32,
 ) -> Result<(), Memory>
-    ensures { OnOk result (GoesOn problem.now budget growing.old growing.new) }
+    ensures { OnOk result (GoesOn task.entry.problem.now task.entry.budget growing.old growing.new) }
 {
     if e == f {
-        return growing.attempt(alloc, problem, budget, PlainStep::EqRefl(e));
+        return task.attempt(growing, PlainStep::EqRefl(e));
     }
     said.different.add(e, f)?;
     said.different.add(f, e)?;
-    attempt_singles(growing, terms, alloc, problem, budget, e, f)?;
-    attempt_singles(growing, terms, alloc, problem, budget, f, e)?;
-    lift(growing, said, alloc, problem, budget, e, f)?;
+    attempt_singles(growing, task, e, f)?;
+    attempt_singles(growing, task, f, e)?;
+    lift(growing, said, task, e, f)?;
     if said.label(e) == said.label(f) {
-        return join(growing, said, alloc, problem, budget, e, f);
+        return join(growing, said, task, e, f);
     }
     Ok(())
 }
@@ -216,13 +161,11 @@ pub(crate) fn follow_different(
 pub(crate) fn follow_equal(
     growing: &mut Growing,
     said: &mut Said,
-    alloc: Global,
-    problem: &Problem,
-    budget: u64,
+    task: Task<'_>,
     e: u32,
     f: u32,
 ) -> Result<(), Memory>
-    ensures { OnOk result (GoesOn problem.now budget growing.old growing.new) }
+    ensures { OnOk result (GoesOn task.entry.problem.now task.entry.budget growing.old growing.new) }
 {
     let first = said.label(e);
     let second = said.label(f);
@@ -232,12 +175,12 @@ pub(crate) fn follow_equal(
     said.merge(e, f)?;
     let old = if first < second { second } else { first };
     for set in said.sets.of(old) {
-        attempt_carry(growing, said, alloc, problem, budget, old, *set)?;
+        attempt_carry(growing, said, task, old, *set)?;
     }
     for other in said.different.of(old) {
-        lift(growing, said, alloc, problem, budget, old, *other)?;
+        lift(growing, said, task, old, *other)?;
         if said.label(old) == said.label(*other) {
-            join(growing, said, alloc, problem, budget, old, *other)?;
+            join(growing, said, task, old, *other)?;
         }
     }
     Ok(())
@@ -247,23 +190,16 @@ pub(crate) fn follow_equal(
 fn attempt_empty(
     growing: &mut Growing,
     said: &Said,
-    alloc: Global,
-    problem: &Problem,
-    budget: u64,
+    task: Task<'_>,
     argument: u32,
     set: u32,
     empty: u32,
 ) -> Result<(), Memory>
-    ensures { OnOk result (GoesOn problem.now budget growing.old growing.new) }
+    ensures { OnOk result (GoesOn task.entry.problem.now task.entry.budget growing.old growing.new) }
 {
     for element in said.elements.of(argument) {
-        growing.attempt(alloc, problem, budget, PlainStep::Op(*element, empty, 0))?;
-        growing.attempt(
-            alloc,
-            problem,
-            budget,
-            PlainStep::Move(*element, empty, set),
-        )?;
+        task.attempt(growing, PlainStep::Op(*element, empty, 0))?;
+        task.attempt(growing, PlainStep::Move(*element, empty, set))?;
     }
     Ok(())
 }
@@ -272,25 +208,23 @@ fn attempt_empty(
 fn attempt_moves(
     growing: &mut Growing,
     said: &Said,
-    alloc: Global,
-    problem: &Problem,
-    budget: u64,
+    task: Task<'_>,
     s: u32,
     t: u32,
 ) -> Result<(), Memory>
-    ensures { OnOk result (GoesOn problem.now budget growing.old growing.new) }
+    ensures { OnOk result (GoesOn task.entry.problem.now task.entry.budget growing.old growing.new) }
 {
     for element in said.elements.of(s) {
-        growing.attempt(alloc, problem, budget, PlainStep::Move(*element, s, t))?;
+        task.attempt(growing, PlainStep::Move(*element, s, t))?;
     }
-    let Some(SetTerm::Empty(_)) = problem.find_set(t) else {
+    let Some(SetTerm::Empty(_)) = task.problem.find_set(t) else {
         return Ok(());
     };
-    attempt_empty(growing, said, alloc, problem, budget, s, s, t)?;
-    match problem.find_set(s) {
+    attempt_empty(growing, said, task, s, s, t)?;
+    match task.problem.find_set(s) {
         Some(SetTerm::Union(a, b) | SetTerm::Inter(a, b) | SetTerm::Minus(a, b)) => {
-            attempt_empty(growing, said, alloc, problem, budget, *a, s, t)?;
-            attempt_empty(growing, said, alloc, problem, budget, *b, s, t)
+            attempt_empty(growing, said, task, *a, s, t)?;
+            attempt_empty(growing, said, task, *b, s, t)
         }
         _ => Ok(()),
     }
@@ -300,60 +234,46 @@ fn attempt_moves(
 pub(crate) fn follow_equal_sets(
     growing: &mut Growing,
     said: &mut Said,
-    alloc: Global,
-    problem: &Problem,
-    budget: u64,
+    task: Task<'_>,
     s: u32,
     t: u32,
 ) -> Result<(), Memory>
-    ensures { OnOk result (GoesOn problem.now budget growing.old growing.new) }
+    ensures { OnOk result (GoesOn task.entry.problem.now task.entry.budget growing.old growing.new) }
 {
     if s == t {
         return Ok(());
     }
     said.equal_sets.add(s, t)?;
     said.equal_sets.add(t, s)?;
-    attempt_moves(growing, said, alloc, problem, budget, s, t)?;
-    attempt_moves(growing, said, alloc, problem, budget, t, s)
+    attempt_moves(growing, said, task, s, t)?;
+    attempt_moves(growing, said, task, t, s)
 }
 
 /// Follows up that two sets differ.
 pub(crate) fn follow_unequal_sets(
     growing: &mut Growing,
     said: &mut Said,
-    alloc: Global,
-    problem: &Problem,
-    budget: u64,
+    task: Task<'_>,
     s: u32,
     t: u32,
 ) -> Result<(), Memory>
-    ensures { OnOk result (GoesOn problem.now budget growing.old growing.new) }
+    ensures { OnOk result (GoesOn task.entry.problem.now task.entry.budget growing.old growing.new) }
 {
     if s == t {
-        return growing.attempt(alloc, problem, budget, PlainStep::SeqRefl(s));
+        return task.attempt(growing, PlainStep::SeqRefl(s));
     }
     said.unequal_sets.push((s, t))?;
     Ok(())
 }
 
 /// Says of each set of one that its element is in it.
-pub(crate) fn spread_singles(
-    growing: &mut Growing,
-    alloc: Global,
-    problem: &Problem,
-    budget: u64,
-) -> Result<(), Memory>
-    ensures { OnOk result (GoesOn problem.now budget growing.old growing.new) }
+pub(crate) fn spread_singles(growing: &mut Growing, task: Task<'_>) -> Result<(), Memory>
+    ensures { OnOk result (GoesOn task.entry.problem.now task.entry.budget growing.old growing.new) }
 {
-    for place in 0..problem.counts().sets {
-        if let SetTerm::Single(element) = problem.set(place + 1) {
-            growing.attempt(alloc, problem, budget, PlainStep::EqRefl(*element))?;
-            growing.attempt(
-                alloc,
-                problem,
-                budget,
-                PlainStep::Single(*element, place + 1),
-            )?;
+    for place in 0..task.problem.counts().sets {
+        if let SetTerm::Single(element) = task.problem.set(place + 1) {
+            task.attempt(growing, PlainStep::EqRefl(*element))?;
+            task.attempt(growing, PlainStep::Single(*element, place + 1))?;
         }
     }
     Ok(())

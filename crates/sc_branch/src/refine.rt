@@ -1,9 +1,9 @@
 //! Which cuts look useful on a path that spreads no further. What is proposed here is judged before it is taken, so a bad choice costs time alone.
 
+use crate::agenda::Signed;
 use crate::growth::Growing;
 use crate::guess::Stuck;
-use crate::said::Said;
-use crate::spread::Tables;
+use crate::seen::Seen;
 use sc_facts::{FactName, Path};
 use sc_rules::{PlainStep, membership_of, own_sign, sign_of};
 use sc_terms::{Formula, Memory, Problem, SetTerm};
@@ -17,50 +17,56 @@ fn unsigned_of(path: &Path, formulas: &[u32]) -> Option<u32> {
         .copied()
 }
 
-/// A part without a sign of a formula that has a sign, which its parts' signs do not force.
-fn open_part(problem: &Problem, path: &Path, formula: u32) -> Option<u32> {
+/// A part without a sign of a formula that has a sign, which its parts' signs do not force, with the sign that bears the formula's own out, where one sign of a part does.
+fn open_part(problem: &Problem, path: &Path, formula: u32) -> Option<Signed> {
     let sign = sign_of(path, formula)?;
     let node = problem.find_formula(formula)?;
     if own_sign(path, node) == Some(sign) {
         return None;
     }
-    match node {
-        Formula::Not(f) => unsigned_of(path, &[*f]),
-        Formula::And(parts) | Formula::Or(parts) => unsigned_of(path, parts.as_slice()),
-        Formula::Iff(f, g) => unsigned_of(path, &[*f, *g]),
-        _ => None,
-    }
+    let (part, wanted) = match node {
+        Formula::Not(f) => (unsigned_of(path, &[*f]), !sign),
+        Formula::And(parts) | Formula::Or(parts) => (unsigned_of(path, parts.as_slice()), sign),
+        Formula::Iff(f, g) => (unsigned_of(path, &[*f, *g]), true),
+        _ => (None, sign),
+    };
+    Some(Signed {
+        formula: part?,
+        sign: wanted,
+    })
 }
 
-/// A cut on the sign of a part of a formula whose sign is not borne out.
-fn cut_on_formula(problem: &Problem, path: &Path) -> Option<PlainStep> {
-    for place in 0..problem.counts().formulas {
+/// A part of the first formula from a place on, counted from 0, whose sign is not borne out, and the formula's place.
+pub(crate) fn first_open(problem: &Problem, path: &Path, start: u32) -> Option<(u32, Signed)> {
+    for place in start..problem.counts().formulas {
         if let Some(part) = open_part(problem, path, place + 1) {
-            return Some(PlainStep::Cut(FactName::Sign(part)));
+            return Some((place, part));
         }
     }
     None
 }
 
 /// The argument of a set term on which an element's membership in the term still depends, though the term's own is known.
-fn open_argument(problem: &Problem, path: &Path, element: u32, set: u32) -> Option<u32> {
-    let inside = membership_of(path, element, set)?;
-    let (a, b) = match (problem.find_set(set)?, inside) {
+fn open_argument(seen: Seen<'_>, element: u32, set: u32) -> Option<u32> {
+    let inside = membership_of(seen.path, element, set)?;
+    let (a, b) = match (seen.problem.find_set(set)?, inside) {
         (SetTerm::Union(a, b), true) => (*a, *b),
         (SetTerm::Inter(a, b), false) => (*a, *b),
         (SetTerm::Minus(a, b), false) => (*a, *b),
         _ => return None,
     };
-    if membership_of(path, element, a).is_none() && membership_of(path, element, b).is_none() {
+    if membership_of(seen.path, element, a).is_none()
+        && membership_of(seen.path, element, b).is_none()
+    {
         return Some(a);
     }
     None
 }
 
 /// A cut on one element's membership in an argument of a set term.
-fn cut_at(problem: &Problem, path: &Path, said: &Said, element: u32) -> Option<PlainStep> {
-    for set in said.sets.of(element) {
-        if let Some(argument) = open_argument(problem, path, element, *set) {
+fn cut_at(seen: Seen<'_>, element: u32) -> Option<PlainStep> {
+    for set in seen.said.sets.of(element) {
+        if let Some(argument) = open_argument(seen, element, *set) {
             return Some(PlainStep::Cut(FactName::Member(element, argument)));
         }
     }
@@ -68,10 +74,10 @@ fn cut_at(problem: &Problem, path: &Path, said: &Said, element: u32) -> Option<P
 }
 
 /// A cut on an element's membership in an argument of a set term.
-fn cut_on_argument(problem: &Problem, path: &Path, said: &Said) -> Option<PlainStep> {
-    for (element, set) in said.memberships.as_slice() {
-        if said.label(*element) == *element {
-            if let Some(argument) = open_argument(problem, path, *element, *set) {
+fn cut_on_argument(seen: Seen<'_>) -> Option<PlainStep> {
+    for (element, set) in seen.said.memberships.as_slice() {
+        if seen.said.label(*element) == *element {
+            if let Some(argument) = open_argument(seen, *element, *set) {
                 return Some(PlainStep::Cut(FactName::Member(*element, argument)));
             }
         }
@@ -80,13 +86,13 @@ fn cut_on_argument(problem: &Problem, path: &Path, said: &Said) -> Option<PlainS
 }
 
 /// Whether the path says which of two sets has their differing element.
-fn is_told_apart(path: &Path, tables: &Tables, s: u32, t: u32) -> bool {
-    let Some(element) = tables.terms.difference(s, t) else {
+fn is_told_apart(seen: Seen<'_>, s: u32, t: u32) -> bool {
+    let Some(element) = seen.fixed.terms.difference(s, t) else {
         return false;
     };
     match (
-        membership_of(path, element, s),
-        membership_of(path, element, t),
+        membership_of(seen.path, element, s),
+        membership_of(seen.path, element, t),
     ) {
         (Some(inside), Some(other)) => inside != other,
         _ => false,
@@ -96,34 +102,32 @@ fn is_told_apart(path: &Path, tables: &Tables, s: u32, t: u32) -> bool {
 /// A split on which of two different sets has their differing element.
 fn split_on_difference(
     growing: &Growing,
-    tables: &Tables,
+    seen: Seen<'_>,
     alloc: Global,
-    problem: &Problem,
 ) -> Result<Option<PlainStep>, Memory> {
-    for (s, t) in tables.said.unequal_sets.as_slice() {
+    for (s, t) in seen.said.unequal_sets.as_slice() {
         // Trying the step looks at all elements; this look-up is quick.
-        if is_told_apart(growing.path(), tables, *s, *t) {
+        if is_told_apart(seen, *s, *t) {
             continue;
         }
         let step = PlainStep::Differ(*s, *t);
-        if growing.can_split(alloc, problem, &step)? {
+        if growing.can_split(alloc, seen.problem, &step)? {
             return Ok(Some(step));
         }
     }
     Ok(None)
 }
 
-/// A split without which no values that are read off the path can be right, whatever is guessed beside it.
+/// A split on what the path leaves open of the assertions: on a formula whose sign its parts do not bear out yet, or on which of two different sets has their differing element. Values that are read off the path may make the assertions true all the same.
 pub(crate) fn needed_split(
     growing: &Growing,
-    tables: &Tables,
+    seen: Seen<'_>,
     alloc: Global,
-    problem: &Problem,
 ) -> Result<Option<PlainStep>, Memory> {
-    if let Some(step) = cut_on_formula(problem, growing.path()) {
-        return Ok(Some(step));
+    if let Some((_, part)) = first_open(seen.problem, seen.path, 0) {
+        return Ok(Some(PlainStep::Cut(FactName::Sign(part.formula))));
     }
-    split_on_difference(growing, tables, alloc, problem)
+    split_on_difference(growing, seen, alloc)
 }
 
 /// Whether the walk comes to a term for the first time; then it is marked with the element.
@@ -141,15 +145,16 @@ fn is_first(marks: &mut [u32], set: u32, element: u32) -> bool {
 
 /// The terms over a set term in which the path doesn't say whether an element is, and to which the walk comes for the first time.
 fn open_parents(
-    path: &Path,
-    tables: &Tables,
+    seen: Seen<'_>,
     element: u32,
     set: u32,
     marks: &mut [u32],
     pending: &mut Vec<u32>,
 ) -> Result<(), Memory> {
-    for parent in tables.terms.parents(set) {
-        if is_first(marks, *parent, element) && membership_of(path, element, *parent).is_none() {
+    for parent in seen.fixed.terms.parents(set) {
+        if is_first(marks, *parent, element)
+            && membership_of(seen.path, element, *parent).is_none()
+        {
             pending.push(*parent)?;
         }
     }
@@ -158,24 +163,23 @@ fn open_parents(
 
 /// A set term that the path says to equal another, in which it doesn't say whether an element is, though it does for a part of the term.
 fn open_equal(
-    path: &Path,
-    tables: &Tables,
+    seen: Seen<'_>,
     alloc: Global,
     element: u32,
     marks: &mut [u32],
 ) -> Result<Option<u32>, Memory> {
     let mut pending = Vec::new(alloc);
-    for set in tables.said.sets.of(element) {
-        open_parents(path, tables, element, *set, marks, &mut pending)?;
+    for set in seen.said.sets.of(element) {
+        open_parents(seen, element, *set, marks, &mut pending)?;
     }
     for _ in 0..u64::MAX {
         let Some(set) = pending.pop() else {
             return Ok(None);
         };
-        if !tables.said.equal_sets.of(set).is_empty() {
+        if !seen.said.equal_sets.of(set).is_empty() {
             return Ok(Some(set));
         }
-        open_parents(path, tables, element, set, marks, &mut pending)?;
+        open_parents(seen, element, set, marks, &mut pending)?;
     }
     Ok(None)
 }
@@ -191,17 +195,15 @@ fn no_marks(alloc: Global, problem: &Problem) -> Result<Vec<u32>, Memory> {
 
 /// A cut on one element's membership, on which a term or an equation of sets depends.
 fn split_at(
-    path: &Path,
-    tables: &Tables,
+    seen: Seen<'_>,
     alloc: Global,
-    problem: &Problem,
     element: u32,
     marks: &mut [u32],
 ) -> Result<Option<PlainStep>, Memory> {
-    if let Some(step) = cut_at(problem, path, &tables.said, element) {
+    if let Some(step) = cut_at(seen, element) {
         return Ok(Some(step));
     }
-    match open_equal(path, tables, alloc, element, marks)? {
+    match open_equal(seen, alloc, element, marks)? {
         Some(set) => Ok(Some(PlainStep::Cut(FactName::Member(element, set)))),
         None => Ok(None),
     }
@@ -209,44 +211,40 @@ fn split_at(
 
 /// A cut on a membership of the element whose memberships could not be guessed: on that in a set of one that it was to be in, if there is one.
 fn split_where_stuck(
-    path: &Path,
-    tables: &Tables,
+    seen: Seen<'_>,
     alloc: Global,
-    problem: &Problem,
     stuck: Stuck,
     marks: &mut [u32],
 ) -> Result<Option<PlainStep>, Memory> {
     let element = stuck.element;
     if let Some(single) = stuck.single {
-        if membership_of(path, element, single).is_none() {
+        if membership_of(seen.path, element, single).is_none() {
             return Ok(Some(PlainStep::Cut(FactName::Member(element, single))));
         }
     }
-    split_at(path, tables, alloc, problem, element, marks)
+    split_at(seen, alloc, element, marks)
 }
 
 /// A cut that may matter to whether sets are as the path says by the values that are read off it: on a membership of the element whose memberships could not be guessed, or else of another.
 pub(crate) fn useful_split(
-    path: &Path,
-    tables: &Tables,
+    seen: Seen<'_>,
     alloc: Global,
-    problem: &Problem,
     stuck: Option<Stuck>,
 ) -> Result<Option<PlainStep>, Memory> {
-    let mut marks = no_marks(alloc, problem)?;
+    let mut marks = no_marks(alloc, seen.problem)?;
     if let Some(stuck) = stuck {
-        let step = split_where_stuck(path, tables, alloc, problem, stuck, &mut marks)?;
+        let step = split_where_stuck(seen, alloc, stuck, &mut marks)?;
         if step.is_some() {
             return Ok(step);
         }
     }
-    if let Some(step) = cut_on_argument(problem, path, &tables.said) {
+    if let Some(step) = cut_on_argument(seen) {
         return Ok(Some(step));
     }
-    for place in 0..problem.counts().elements {
+    for place in 0..seen.problem.counts().elements {
         let element = place + 1;
-        if tables.said.label(element) == element {
-            if let Some(set) = open_equal(path, tables, alloc, element, &mut marks)? {
+        if seen.said.label(element) == element {
+            if let Some(set) = open_equal(seen, alloc, element, &mut marks)? {
                 return Ok(Some(PlainStep::Cut(FactName::Member(element, set))));
             }
         }

@@ -10,7 +10,7 @@ use crate::members::{
     spread_singles,
 };
 use crate::said::Said;
-use crate::terms::Terms;
+use crate::task::Task;
 use sc_facts::Fact;
 use sc_rules::PlainStep;
 use sc_terms::{Formula, Memory, Problem};
@@ -19,30 +19,26 @@ use std::alloc::Global;
 /// Tries a step that would give a formula this sign.
 fn attempt_sign(
     growing: &mut Growing,
-    alloc: Global,
-    problem: &Problem,
-    budget: u64,
+    task: Task<'_>,
     signed: Signed,
     step: PlainStep,
 ) -> Result<(), Memory>
-    ensures { OnOk result (GoesOn problem.now budget growing.old growing.new) }
+    ensures { OnOk result (GoesOn task.entry.problem.now task.entry.budget growing.old growing.new) }
 {
     if growing.path().has(&Fact::Sign(signed.formula, signed.sign)) {
         return Ok(());
     }
-    growing.attempt(alloc, problem, budget, step)
+    task.attempt(growing, step)
 }
 
 /// Gives each part of an `and` or an `or` the formula's sign.
 fn spread_to_all(
     growing: &mut Growing,
-    alloc: Global,
-    problem: &Problem,
-    budget: u64,
+    task: Task<'_>,
     signed: Signed,
     parts: &[u32],
 ) -> Result<(), Memory>
-    ensures { OnOk result (GoesOn problem.now budget growing.old growing.new) }
+    ensures { OnOk result (GoesOn task.entry.problem.now task.entry.budget growing.old growing.new) }
 {
     let mut place = 0;
     for part in parts {
@@ -55,7 +51,7 @@ fn spread_to_all(
             sign: signed.sign,
         };
         let step = PlainStep::All(signed.formula, place);
-        attempt_sign(growing, alloc, problem, budget, due, step)?;
+        attempt_sign(growing, task, due, step)?;
     }
     Ok(())
 }
@@ -76,22 +72,16 @@ fn lacking_place(growing: &Growing, parts: &[u32], sign: bool) -> Option<u32> {
 }
 
 /// Gives the part of a false `and`, or of a true `or`, that alone lacks the other sign that sign.
-fn spread_to_last(
-    growing: &mut Growing,
-    alloc: Global,
-    problem: &Problem,
-    budget: u64,
-    formula: u32,
-) -> Result<(), Memory>
-    ensures { OnOk result (GoesOn problem.now budget growing.old growing.new) }
+fn spread_to_last(growing: &mut Growing, task: Task<'_>, formula: u32) -> Result<(), Memory>
+    ensures { OnOk result (GoesOn task.entry.problem.now task.entry.budget growing.old growing.new) }
 {
-    let place = match problem.find_formula(formula) {
+    let place = match task.problem.find_formula(formula) {
         Some(Formula::And(parts)) => lacking_place(growing, parts.as_slice(), true),
         Some(Formula::Or(parts)) => lacking_place(growing, parts.as_slice(), false),
         _ => None,
     };
     match place {
-        Some(place) => growing.attempt(alloc, problem, budget, PlainStep::Unit(formula, place)),
+        Some(place) => task.attempt(growing, PlainStep::Unit(formula, place)),
         None => Ok(()),
     }
 }
@@ -100,33 +90,29 @@ fn spread_to_last(
 fn spread_down(
     growing: &mut Growing,
     agenda: &Agenda,
-    alloc: Global,
-    problem: &Problem,
-    budget: u64,
+    task: Task<'_>,
     signed: Signed,
 ) -> Result<(), Memory>
-    ensures { OnOk result (GoesOn problem.now budget growing.old growing.new) }
+    ensures { OnOk result (GoesOn task.entry.problem.now task.entry.budget growing.old growing.new) }
 {
     let formula = signed.formula;
-    match (problem.find_formula(formula), signed.sign) {
+    match (task.problem.find_formula(formula), signed.sign) {
         (Some(Formula::Member(_, _) | Formula::Eq(_, _) | Formula::EqSet(_, _)), _) => {
-            growing.attempt(alloc, problem, budget, PlainStep::Atom(formula))
+            task.attempt(growing, PlainStep::Atom(formula))
         }
         (Some(Formula::And(parts)), true) | (Some(Formula::Or(parts)), false) => {
-            spread_to_all(growing, alloc, problem, budget, signed, parts.as_slice())
+            spread_to_all(growing, task, signed, parts.as_slice())
         }
         (Some(Formula::And(_)), false) | (Some(Formula::Or(_)), true) => {
             if agenda.lacking(formula) > 1 {
                 return Ok(());
             }
-            spread_to_last(growing, alloc, problem, budget, formula)
+            spread_to_last(growing, task, formula)
         }
-        (Some(Formula::Not(_)), _) => {
-            growing.attempt(alloc, problem, budget, PlainStep::Unit(formula, 1))
-        }
+        (Some(Formula::Not(_)), _) => { task.attempt(growing, PlainStep::Unit(formula, 1)) }
         (Some(Formula::Iff(_, _)), _) => {
-            growing.attempt(alloc, problem, budget, PlainStep::Unit(formula, 1))?;
-            growing.attempt(alloc, problem, budget, PlainStep::Unit(formula, 2))
+            task.attempt(growing, PlainStep::Unit(formula, 1))?;
+            task.attempt(growing, PlainStep::Unit(formula, 2))
         }
         _ => Ok(()),
     }
@@ -136,50 +122,46 @@ fn spread_down(
 fn spread_up(
     growing: &mut Growing,
     agenda: &mut Agenda,
-    alloc: Global,
-    problem: &Problem,
-    budget: u64,
+    task: Task<'_>,
     parent: u32,
     sign: bool,
 ) -> Result<(), Memory>
-    ensures { OnOk result (GoesOn problem.now budget growing.old growing.new) }
+    ensures { OnOk result (GoesOn task.entry.problem.now task.entry.budget growing.old growing.new) }
 {
     let own = PlainStep::Unit(parent, 0);
-    let counts = match problem.find_formula(parent) {
+    let counts = match task.problem.find_formula(parent) {
         Some(Formula::And(_)) => sign,
         Some(Formula::Or(_)) => !sign,
         Some(Formula::Iff(_, _)) => {
-            growing.attempt(alloc, problem, budget, PlainStep::Unit(parent, 1))?;
-            growing.attempt(alloc, problem, budget, PlainStep::Unit(parent, 2))?;
-            return growing.attempt(alloc, problem, budget, own);
+            task.attempt(growing, PlainStep::Unit(parent, 1))?;
+            task.attempt(growing, PlainStep::Unit(parent, 2))?;
+            return task.attempt(growing, own);
         }
-        _ => return growing.attempt(alloc, problem, budget, own),
+        _ => return task.attempt(growing, own),
     };
     if !counts {
         let due = Signed {
             formula: parent,
             sign,
         };
-        return attempt_sign(growing, alloc, problem, budget, due, own);
+        return attempt_sign(growing, task, due, own);
     }
     agenda.count_part(parent);
-    spread_when_few(growing, agenda, alloc, problem, budget, parent)
+    spread_when_few(growing, agenda, task, parent)
 }
 
 /// Tries the steps at an `and` or an `or` of which at most one part is lacking.
 fn spread_when_few(
     growing: &mut Growing,
     agenda: &Agenda,
-    alloc: Global,
-    problem: &Problem,
-    budget: u64,
+    task: Task<'_>,
     formula: u32,
 ) -> Result<(), Memory>
-    ensures { OnOk result (GoesOn problem.now budget growing.old growing.new) }
+    ensures { OnOk result (GoesOn task.entry.problem.now task.entry.budget growing.old growing.new) }
 {
     match agenda.lacking(formula) {
-        0 => growing.attempt(alloc, problem, budget, PlainStep::Unit(formula, 0)),
-        1 => spread_to_last(growing, alloc, problem, budget, formula),
+        0 => task.attempt(growing, PlainStep::Unit(formula, 0)),
+        1 => spread_to_last(growing, task, formula),
         _ => Ok(()),
     }
 }
@@ -188,33 +170,24 @@ fn spread_when_few(
 fn spread_to_parents(
     growing: &mut Growing,
     agenda: &mut Agenda,
-    alloc: Global,
-    problem: &Problem,
-    budget: u64,
+    task: Task<'_>,
     signed: Signed,
 ) -> Result<(), Memory>
-    ensures { OnOk result (GoesOn problem.now budget growing.old growing.new) }
+    ensures { OnOk result (GoesOn task.entry.problem.now task.entry.budget growing.old growing.new) }
 {
-    let count = agenda.count(signed.formula);
-    for index in 0..count {
-        let parent = agenda.parent(signed.formula, index);
-        spread_up(growing, agenda, alloc, problem, budget, parent, signed.sign)?;
+    for parent in task.fixed.parents.of(signed.formula) {
+        spread_up(growing, agenda, task, *parent, signed.sign)?;
     }
     Ok(())
 }
 
 /// Gives the constants `true` and `false` their signs.
-fn spread_constants(
-    growing: &mut Growing,
-    alloc: Global,
-    problem: &Problem,
-    budget: u64,
-) -> Result<(), Memory>
-    ensures { OnOk result (GoesOn problem.now budget growing.old growing.new) }
+fn spread_constants(growing: &mut Growing, task: Task<'_>) -> Result<(), Memory>
+    ensures { OnOk result (GoesOn task.entry.problem.now task.entry.budget growing.old growing.new) }
 {
-    for place in 0..problem.counts().formulas {
-        if let Formula::True | Formula::False = problem.formula(place + 1) {
-            growing.attempt(alloc, problem, budget, PlainStep::Unit(place + 1, 0))?;
+    for place in 0..task.problem.counts().formulas {
+        if let Formula::True | Formula::False = task.problem.formula(place + 1) {
+            task.attempt(growing, PlainStep::Unit(place + 1, 0))?;
         }
     }
     Ok(())
@@ -224,32 +197,23 @@ fn spread_constants(
 fn follow(
     growing: &mut Growing,
     tables: &mut Tables,
-    alloc: Global,
-    problem: &Problem,
-    budget: u64,
+    task: Task<'_>,
     news: News,
 ) -> Result<(), Memory>
-    ensures { OnOk result (GoesOn problem.now budget growing.old growing.new) }
+    ensures { OnOk result (GoesOn task.entry.problem.now task.entry.budget growing.old growing.new) }
 {
     let agenda = &mut tables.agenda;
     let said = &mut tables.said;
-    let terms = &tables.terms;
     match news {
         News::Sign(signed) => {
-            spread_down(growing, agenda, alloc, problem, budget, signed)?;
-            spread_to_parents(growing, agenda, alloc, problem, budget, signed)
+            spread_down(growing, agenda, task, signed)?;
+            spread_to_parents(growing, agenda, task, signed)
         }
-        News::Member(e, s) => follow_member(growing, said, terms, alloc, problem, budget, e, s),
-        News::Equal(e, f, true) => follow_equal(growing, said, alloc, problem, budget, e, f),
-        News::Equal(e, f, false) => {
-            follow_different(growing, said, terms, alloc, problem, budget, e, f)
-        }
-        News::EqualSets(s, t, true) => {
-            follow_equal_sets(growing, said, alloc, problem, budget, s, t)
-        }
-        News::EqualSets(s, t, false) => {
-            follow_unequal_sets(growing, said, alloc, problem, budget, s, t)
-        }
+        News::Member(e, s) => follow_member(growing, said, task, e, s),
+        News::Equal(e, f, true) => follow_equal(growing, said, task, e, f),
+        News::Equal(e, f, false) => { follow_different(growing, said, task, e, f) }
+        News::EqualSets(s, t, true) => { follow_equal_sets(growing, said, task, s, t) }
+        News::EqualSets(s, t, false) => { follow_unequal_sets(growing, said, task, s, t) }
         News::Nothing => Ok(()),
     }
 }
@@ -258,16 +222,14 @@ fn follow(
 #[derive(Drop)]
 pub(crate) struct Tables {
     pub agenda: Agenda,
-    pub terms: Terms,
     pub said: Said,
 }
 
 impl Tables {
-    /// The tables of a problem, over a path of which nothing was followed up; linear in the problem.
+    /// The tables over a path of a problem of which nothing was followed up; linear in the problem.
     pub(crate) fn new(alloc: Global, problem: &Problem) -> Result<Tables, Memory> {
         Ok(Tables {
             agenda: Agenda::new(alloc, problem)?,
-            terms: Terms::new(alloc, problem)?,
             said: Said::new(alloc, problem)?,
         })
     }
@@ -277,15 +239,13 @@ impl Tables {
 pub(crate) fn spread(
     growing: &mut Growing,
     tables: &mut Tables,
-    alloc: Global,
-    problem: &Problem,
-    budget: u64,
+    task: Task<'_>,
 ) -> Result<(), Memory>
-    ensures { OnOk result (GoesOn problem.now budget growing.old growing.new) }
+    ensures { OnOk result (GoesOn task.entry.problem.now task.entry.budget growing.old growing.new) }
 {
     if tables.agenda.is_fresh() {
-        spread_constants(growing, alloc, problem, budget)?;
-        spread_singles(growing, alloc, problem, budget)?;
+        spread_constants(growing, task)?;
+        spread_singles(growing, task)?;
     }
     for _ in 0..u64::MAX {
         if growing.clash().is_some() {
@@ -294,7 +254,7 @@ pub(crate) fn spread(
         let Some(news) = tables.agenda.next(growing.path()) else {
             return Ok(());
         };
-        follow(growing, tables, alloc, problem, budget, news)?;
+        follow(growing, tables, task, news)?;
     }
     Ok(())
 }

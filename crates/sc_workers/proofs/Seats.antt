@@ -32,7 +32,7 @@ same_mark : (cells : List Cell) (n : ℕ) (c d : Cell) → item_at cells n ≡ S
 same_mark cells n c d a b = let e : Some c ≡ Some d = sym a ∙ b in cc
 
 -- ---- taking a leaf
-pub takes : LeavesAreTried → (old new : Kept) (n : ℕ) (path : PathFacts) (steps : List Taken) → IsIdle old → IsOpenLeaf old n path steps → Adds old (entry 1 n events.Take false) new → IsLegal new.problem new.budget new.journal → IsBusy new (record { path = path; steps = steps })
+pub takes : LeavesAreTried → (old new : Kept) (n : ℕ) (path : PathFacts) (steps : List Taken) → IsIdle old → IsOpenLeaf old n path steps → Adds old (entry 1 n events.Take false) new → IsLegal new.problem new.budget new.journal → IsBusy new (record { problem = new.problem; path = path; steps = steps })
 takes tried old new n path steps idle opened adds legal =
     let after : state new ≡ with_cell (state old) n (marked opened.cell (marks.Held 1)) = ap state adds.new_is ∙ (state_with old (entry 1 n events.Take false) ∙ next_is old.problem (state old) (entry 1 n events.Take false) opened.cell opened.is (inl opened.was)) in
     let at : item_at (state new).cells n ≡ Some (marked opened.cell (marks.Held 1)) = ap (λ s. item_at s.cells n) after ∙ has_cell (state old).cells n opened.cell (marked opened.cell (marks.Held 1)) opened.is in (
@@ -41,6 +41,7 @@ takes tried old new n path steps idle opened adds legal =
         cell = marked opened.cell (marks.Held 1);
         is = at;
         held_by = refl;
+        about = refl;
         path = sym opened.facts;
         steps = sym opened.taken;
         on = subst (λ p. IsOn new.problem new.budget p steps) (sym opened.facts) (subst (IsOn new.problem new.budget opened.cell.path) (sym opened.taken) (on_leaf tried new legal n (marked opened.cell (marks.Held 1)) at));
@@ -113,6 +114,7 @@ grows tried old new before after chain k busy some is adds legal =
           cell = d;
           is = at;
           held_by = holds.held_by;
+          about = is.3 ∙ (holds.about ∙ ap (λ (t : Kept). t.problem) (sym adds.new_is));
           path = path;
           steps = steps;
           on = subst (λ p. IsOn new.problem new.budget p after.steps) path (subst (IsOn new.problem new.budget d.path) steps (on_leaf tried new legal n d at));
@@ -125,6 +127,15 @@ grows tried old new before after chain k busy some is adds legal =
     by : (m other : ℕ) → ((m ≡ busy.0) × ((grown old.problem busy.1.cell chain).mark ≡ marks.Held other)) ⊎ ((m ≢ busy.0) × HasMark (state old).cells m (marks.Held other)) → m ≡ busy.0
     by m other (inl a) = a.0
     by m other (inr b) = busy.1.only m other b.1
+
+-- ---- the branch's problem
+pub same_problem : (problem : Parts) (old new : Held) (event : Event) → IsHeldAfter problem old event new → new.problem ≡ old.problem
+same_problem problem old new (events.Grow chain) is = is.3
+same_problem problem old new events.Take is = ap (λ (h : Held). h.problem) is
+same_problem problem old new (events.Split step) is = ap (λ (h : Held). h.problem) is
+same_problem problem old new (events.Close closing) is = ap (λ (h : Held). h.problem) is
+same_problem problem old new (events.Spend cause) is = ap (λ (h : Held). h.problem) is
+same_problem problem old new (events.Found values) is = ap (λ (h : Held). h.problem) is
 
 -- ---- giving up
 pub leaves : (old new : Kept) (before : Held) (event : Event) (k : ℕ) → IsBusy old before → Leaves event → event ≢ events.Take → Adds old (entry 1 k event false) new → IsIdle new

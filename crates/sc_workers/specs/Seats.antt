@@ -24,6 +24,7 @@ pub record HoldsAt (t : Kept) (n : ℕ) (held : Held) : Type 0 where
   pub cell : Cell
   pub is : item_at (state t).cells n ≡ Some cell
   pub held_by : cell.mark ≡ marks.Held 1
+  pub about : held.problem ≡ t.problem
   pub path : cell.path ≡ held.path.facts
   pub steps : cell.steps ≡ held.steps
   pub on : IsOn t.problem t.budget held.path.facts held.steps

@@ -1,6 +1,6 @@
 //! Deciding with one worker.
 
-ghost use Rattle.std.specs.Prelude.{◌≡◌, ◌≤◌, ◌^◌, ◌&&◌, true, IfOk, OnOk};
+ghost use Rattle.std.specs.Prelude.{◌≡◌, ◌≤◌, ◌^◌, ◌&&◌, true, IfOk, OnOk, IfSome};
 ghost use Rattle.sc_sorts.specs.Posed.{IsPosed};
 ghost use Rattle.sc_tree.specs.Machine.{state, has_answer};
 ghost use Rattle.sc_tree.specs.Verdicts.{IsJust};
@@ -8,6 +8,8 @@ ghost use Rattle.sc_workers.specs.Seats as spec;
 ghost use Rattle.sc_workers.specs.Seats.{IsOf, IsIdle, IsBusy, IsAsked};
 
 use sc_branch::Branch;
+use sc_deriv::Steps;
+use sc_facts::Path;
 use sc_terms::{Bank, Memory, Problem};
 use sc_tree::{Decider, Event, Reply, Tree, Verdict, leaves_are_tried};
 use std::alloc::Global;
@@ -31,7 +33,6 @@ fn is_still_held(growth: bool, reply: &Reply) -> bool
 
 /// Asks for one event at the leaf that the seat holds, and tells whether the seat still holds it.
 fn ask(
-    alloc: Global,
     problem: &Problem,
     bank: &Bank,
     budget: u64,
@@ -43,10 +44,11 @@ fn ask(
     requires busy { IsBusy tree.old branch.old }
     ensures about { OnOk result (IsOf problem.now budget tree.new) }
     ensures asked { IfOk result (λ held. IsAsked tree.new branch.old branch.new held) }
+    ensures same { OnOk result (branch.new.problem ≡ branch.old.problem) }
 {
     leaves_are_tried();
     let _legal = tree.len();
-    let event = branch.advance(alloc, problem, bank, budget)?;
+    let event = branch.advance(problem, bank, budget)?;
     let growth = is_growth(&event);
     let reply = tree.step(problem, SEAT, event)?;
     Ok(is_still_held(growth, &reply))
@@ -54,27 +56,47 @@ fn ask(
 
 /// Goes on with the leaf that the seat holds until it is given up: the path has no more steps than the budget, and each event but the last adds one.
 fn work(
-    alloc: Global,
     problem: &Problem,
     bank: &Bank,
     budget: u64,
     tree: &mut Tree,
-    branch: Branch,
+    branch: &mut Branch,
 ) -> Result<(), Memory>
     requires posed { IsPosed problem.now bank.now }
     requires limit { budget ≤ 2 ^ 40 }
     requires about { IsOf problem.now budget tree.old }
-    requires busy { IsBusy tree.old branch }
+    requires busy { IsBusy tree.old branch.old }
     ensures about { OnOk result (IsOf problem.now budget tree.new) }
     ensures idle { OnOk result (IsIdle tree.new) }
+    ensures same { OnOk result (branch.new.problem ≡ branch.old.problem) }
 {
-    let mut branch = branch;
     for turn in 0..budget + 1 {
-        if !ask(alloc, problem, bank, budget, tree, &mut branch)? {
+        if !ask(problem, bank, budget, tree, branch)? {
             return Ok(());
         }
     }
     unreachable!()
+}
+
+/// The branch at a leaf: a kept one that goes over to it, or else a new one.
+fn branch_at(
+    alloc: Global,
+    problem: &Problem,
+    kept: Option<Branch>,
+    path: Path,
+    steps: Steps,
+) -> Result<Branch, Memory>
+    requires { IfSome kept (λ branch. branch.problem ≡ problem.now) }
+    ensures { IfOk result (λ branch. branch ≡ record { problem = problem.now; path = path; steps = steps }) }
+{
+    match kept {
+        Some(branch) => {
+            let mut branch = branch;
+            branch.change(problem, path, steps)?;
+            Ok(branch)
+        }
+        None => Branch::from_path(alloc, problem, path, steps),
+    }
 }
 
 /// Takes leaves and goes on with them until the tree has its answer.
@@ -93,11 +115,13 @@ fn search(
     ensures answer { OnOk result (has_answer (state tree.new) ≡ true) }
 {
     leaves_are_tried();
+    let mut kept = None;
     for turn in 0..u64::MAX {
         match tree.step(problem, SEAT, Event::Take)? {
             Reply::Leaf { path, steps, .. } => {
-                let branch = Branch::from_path(alloc, problem, path, steps)?;
-                work(alloc, problem, bank, budget, tree, branch)?;
+                let mut branch = branch_at(alloc, problem, kept, path, steps)?;
+                work(problem, bank, budget, tree, &mut branch)?;
+                kept = Some(branch);
             }
             Reply::Over => return Ok(()),
             Reply::Done => unreachable!(),

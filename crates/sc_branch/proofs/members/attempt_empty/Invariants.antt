@@ -3,4 +3,4 @@ use Rattle.sc_branch.proofs.members.attempt_empty.Given as goal
 
 -- the branch has grown on
 abbrev pub invariant-loop-element : goal.invariant-loop-element
-invariant-loop-element l = GoesOn l.problem l.budget l.initial.growing l.growing
+invariant-loop-element l = GoesOn l.task.problem.now l.task.budget l.initial.growing l.growing

@@ -3,4 +3,4 @@ use Rattle.sc_branch.proofs.members.attempt_singles.Given as goal
 
 -- the branch has grown on
 abbrev pub invariant-loop-set : goal.invariant-loop-set
-invariant-loop-set l = GoesOn l.problem l.budget l.initial.growing l.growing
+invariant-loop-set l = GoesOn l.task.problem.now l.task.budget l.initial.growing l.growing

@@ -3,8 +3,8 @@ use Rattle.sc_branch.proofs.members.follow_member.Given as goal
 
 -- the branch has grown on
 abbrev pub invariant-loop-other : goal.invariant-loop-other
-invariant-loop-other l = GoesOn l.problem l.budget l.initial.growing l.growing
+invariant-loop-other l = GoesOn l.task.problem.now l.task.budget l.initial.growing l.growing
 
 -- the branch has grown on
 abbrev pub invariant-loop-parent : goal.invariant-loop-parent
-invariant-loop-parent l = GoesOn l.problem l.budget l.initial.growing l.growing
+invariant-loop-parent l = GoesOn l.task.problem.now l.task.budget l.initial.growing l.growing

@@ -3,4 +3,4 @@ use Rattle.sc_branch.proofs.members.join.Given as goal
 
 -- the branch has grown on
 abbrev pub invariant-loop-step : goal.invariant-loop-step
-invariant-loop-step l = GoesOn l.problem l.budget l.initial.growing l.growing
+invariant-loop-step l = GoesOn l.task.problem.now l.task.budget l.initial.growing l.growing

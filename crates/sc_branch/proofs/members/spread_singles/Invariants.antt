@@ -3,4 +3,4 @@ use Rattle.sc_branch.proofs.members.spread_singles.Given as goal
 
 -- the branch has grown on
 abbrev pub invariant-loop-place : goal.invariant-loop-place
-invariant-loop-place l = GoesOn l.problem l.budget l.initial.growing l.growing
+invariant-loop-place l = GoesOn l.task.problem.now l.task.budget l.initial.growing l.growing

@@ -3,4 +3,4 @@ use Rattle.sc_branch.proofs.spread.spread.Given as goal
 
 -- the branch has grown on
 abbrev pub invariant-loop : goal.invariant-loop
-invariant-loop l = GoesOn l.problem l.budget l.initial.growing l.growing
+invariant-loop l = GoesOn l.task.problem.now l.task.budget l.initial.growing l.growing

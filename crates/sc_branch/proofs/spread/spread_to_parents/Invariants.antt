@@ -2,5 +2,5 @@ use Rattle.sc_branch.specs.Growing.{GoesOn}
 use Rattle.sc_branch.proofs.spread.spread_to_parents.Given as goal
 
 -- the branch has grown on
-abbrev pub invariant-loop-index : goal.invariant-loop-index
-invariant-loop-index l = GoesOn l.problem l.budget l.initial.growing l.growing
+abbrev pub invariant-loop-parent : goal.invariant-loop-parent
+invariant-loop-parent l = GoesOn l.task.problem.now l.task.budget l.initial.growing l.growing

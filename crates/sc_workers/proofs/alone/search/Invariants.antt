@@ -1,3 +1,4 @@
+use Rattle.std.specs.Prelude.{◌≡◌, IfSome}
 use Rattle.sc_workers.specs.Seats.{IsOf, IsIdle}
 use Rattle.sc_workers.proofs.alone.search.Given as goal
 
@@ -6,4 +7,5 @@ abbrev pub invariant-loop-turn : goal.invariant-loop-turn
 invariant-loop-turn l = record {
   about : IsOf l.problem l.budget l.tree;
   idle : IsIdle l.tree;
+  same : IfSome l.kept (λ branch. branch.problem ≡ l.problem);
 }

@@ -1,4 +1,4 @@
-use Rattle.std.proofs.Common.{◌≤◌, length}
+use Rattle.std.proofs.Common.{◌≡◌, ◌≤◌, length}
 use Rattle.sc_workers.specs.Seats.{IsOf, IsBusy}
 use Rattle.sc_workers.proofs.alone.work.Given as goal
 
@@ -7,5 +7,6 @@ abbrev pub invariant-loop-turn : goal.invariant-loop-turn
 invariant-loop-turn l = record {
   about : IsOf l.problem l.budget l.tree;
   busy : IsBusy l.tree l.branch;
+  same : l.branch.problem ≡ l.initial.branch.problem;
   counted : l.turn ≤ length l.branch.steps;
 }
