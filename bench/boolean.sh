@@ -1,6 +1,6 @@
 #!/usr/bin/env bash
-# Times the Boolean search, beside cvc5 where it is installed: implications, disjunctions and pigeons of Boolean
-# constants, and implications between memberships.
+# Times the Boolean search, beside cvc5 where it is installed: implications, disjunctions, pigeons and clauses of three
+# literals of Boolean constants, and implications between memberships.
 #
 # bench/boolean.sh [PROGRAM]: the program is crates/setcard/out/setcard, unless another is named.
 set -euo pipefail
@@ -59,6 +59,25 @@ pigeons() {
   echo '(check-sat)'
 }
 
+# N M: M clauses of three literals of N constants, by chance that is the same each time
+clauses() {
+  constants 1 "$1"
+  awk -v n="$1" -v m="$2" '
+    function next_below(k) { x = (x * 25173 + 13849) % 65536; return int(x / 65536 * k) }
+    BEGIN {
+      x = 1
+      for (i = 0; i < m; i++) {
+        printf "(assert (or"
+        for (j = 0; j < 3; j++) {
+          literal = "p" next_below(n) + 1
+          printf next_below(2) ? " " literal : " (not " literal ")"
+        }
+        print "))"
+      }
+    }'
+  echo '(check-sat)'
+}
+
 # N implications, from an element's membership in one set to that in the next; it is in the first and not in the last
 memberships() {
   local i
@@ -82,9 +101,13 @@ for n in 200 2000; do
   disjunctions $n > "$work/disjunctions"
   row "$n disjunctions" "$work/disjunctions" sat
 done
-for n in 4 5; do
+for n in 4 6 8; do
   pigeons $n > "$work/pigeons"
   row "$n pigeons into $(( n - 1 )) holes" "$work/pigeons" unsat
+done
+for n in 50 100; do
+  clauses $n $(( 4 * n )) > "$work/clauses"
+  row "$(( 4 * n )) clauses of three of $n constants" "$work/clauses" sat
 done
 memberships 1000 > "$work/memberships"
 row 'a chain of 1000 memberships, its end denied' "$work/memberships" unsat

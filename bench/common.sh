@@ -2,7 +2,9 @@
 # What the benchmarks share: finding the programs, a folder for inputs, runs, and rows. It is read by the other scripts
 # and needs bash 5, GNU coreutils and awk. Nothing is built here.
 #
-# BENCH_RUNS is how often each input is run at most (5), BENCH_SECONDS how many seconds a run has (60).
+# BENCH_RUNS is how often each input is run at most (5), BENCH_SECONDS how many seconds a run has (60). Times are by the
+# clock, or with BENCH_CLOCK=cpu those of the processor, user and system, in milliseconds: they stay the same on a machine
+# that does other work too. With BENCH_ROWS, a regular expression, only the rows whose names match are measured.
 #
 # A script ends with status 0; with 1 where a row failed: an answer is wrong or differs from that of cvc5, or a program
 # refused its input, crashed or printed another thing than it should; and with 2 where it could not begin. A run that
@@ -18,6 +20,11 @@ for number in "$runs" "$seconds"; do
     exit 2
   fi
 done
+clock=${BENCH_CLOCK:-wall}
+if [[ $clock != wall && $clock != cpu ]]; then
+  printf '%s: BENCH_CLOCK is wall or cpu\n' "${0##*/}" >&2
+  exit 2
+fi
 failures=0
 running=''
 work=$(mktemp -d)
@@ -71,15 +78,25 @@ declared() {
   for (( i = 1; i <= $2; i++ )); do echo "(declare-const A$i (Set U))"; done
 }
 
+# FILE FILE: the processor's time, in microseconds, that programs took between two outputs of 'times'
+between_times() {
+  awk 'FNR == 2 {
+    gsub("s", "")
+    for (i = 1; i <= 2; i++) { split($i, part, "m"); sum[FILENAME] += part[1] * 60 + part[2] }
+  }
+  END { printf "%.0f", (sum[ARGV[2]] - sum[ARGV[1]]) * 1000000 }' "$1" "$2"
+}
+
 # INPUT COMMAND ..: runs the command on the input, several times. Afterwards us is the least time in microseconds, and
 # of the last run status is the exit status, $work/out what was printed, answers the answers to check-sats, and outcome
 # what came of it in words. Once a run failed, or the runs took 10 s together, there are no more of them.
 measure() {
-  local input=$1 run begin took total=0 is_late=false
+  local input=$1 run begin took spent total=0 is_late=false
   shift
   us=0
   for (( run = 0; run < runs && total < 10000000; run++ )); do
     status=0
+    times > "$work/begin"
     begin=${EPOCHREALTIME//[!0-9]/}
     timeout --kill-after=5 "$seconds" "$@" < "$input" > "$work/out" 2> /dev/null &
     running=$!
@@ -87,7 +104,13 @@ measure() {
     took=$(( ${EPOCHREALTIME//[!0-9]/} - begin ))
     running=''
     total=$(( total + took ))
-    if (( us == 0 || took < us )); then us=$took; fi
+    spent=$took
+    if [[ $clock == cpu ]]; then
+      times > "$work/end"
+      spent=$(between_times "$work/begin" "$work/end")
+      if (( spent < 1000 )); then spent=1000; fi
+    fi
+    if (( us == 0 || spent < us )); then us=$spent; fi
     if (( status != 0 )); then
       if (( took >= seconds * 1000000 )); then is_late=true; fi
       break
@@ -169,7 +192,7 @@ begin_scripts() {
     "$(git -C "$top" describe --always --dirty 2> /dev/null || echo 'no commit')"
   echo '(set-logic ALL)' > "$work/start"
   measure "$work/start" "$program" solve
-  printf 'least of up to %d runs; %s ms of each time are the start of setcard' "$runs" "$(milliseconds "$us")"
+  printf 'least of up to %d runs, by the %s; %s ms of each time are the start of setcard' "$runs" "$([[ $clock == cpu ]] && echo processor || echo clock)" "$(milliseconds "$us")"
   judge 'done' || printf ' (%s)' "$outcome"
   if [[ -n $cvc5 ]]; then
     measure_cvc5 "$work/start"
@@ -192,6 +215,7 @@ cells() {
 # NAME INPUT EXPECTED [alone]: times the program on a script whose outcome is expected; and cvc5, unless 'alone'
 row() {
   local name=$1 input=$2 expected=$3 ours our_outcome our_answers speed theirs=- ratio=- note='' is_right=false
+  if [[ ! $name =~ ${BENCH_ROWS:-} ]]; then return; fi
   measure "$input" "$program" solve
   ours=$us
   our_answers=$answers

@@ -1,0 +1,13 @@
+; Two ways to write one policy: staff and guests, but no locked user.
+(set-logic ALL)
+(declare-sort User 0)
+(declare-const Staff (Set User))
+(declare-const Guests (Set User))
+(declare-const Locked (Set User))
+(declare-const Old (Set User))
+(declare-const New (Set User))
+(assert (= Old (set.minus (set.union Staff Guests) Locked)))
+(assert (= New (set.union (set.minus Staff Locked) (set.minus Guests (set.union Locked Staff)))))
+(assert (distinct Old New))
+(set-info :status unsat)
+(check-sat)

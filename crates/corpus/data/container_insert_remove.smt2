@@ -1,0 +1,11 @@
+; A key that is new is put in and taken out again. Is the container as before?
+(set-logic ALL)
+(declare-sort Key 0)
+(declare-const k Key)
+(declare-const before (Set Key))
+(declare-const after (Set Key))
+(assert (not (set.member k before)))
+(assert (= after (set.minus (set.insert k before) (set.singleton k))))
+(assert (distinct before after))
+(set-info :status unsat)
+(check-sat)

@@ -1,0 +1,13 @@
+; A key is taken out and put in again. Is the container as before? Only where it held the key.
+(set-logic ALL)
+(declare-sort Key 0)
+(declare-const k Key)
+(declare-const before (Set Key))
+(declare-const after (Set Key))
+(assert (= after (set.insert k (set.minus before (set.singleton k)))))
+(assert (distinct before after))
+(set-info :status sat)
+(check-sat)
+(assert (set.member k before))
+(set-info :status unsat)
+(check-sat)

@@ -1,0 +1,13 @@
+; Two calls in a row change at most the two footprints together.
+(set-logic ALL)
+(declare-sort Object 0)
+(declare-const M0 (Set Object))
+(declare-const M1 (Set Object))
+(declare-const M2 (Set Object))
+(declare-const F1 (Set Object))
+(declare-const F2 (Set Object))
+(assert (= (set.minus M0 F1) (set.minus M1 F1)))
+(assert (= (set.minus M1 F2) (set.minus M2 F2)))
+(assert (distinct (set.minus M0 (set.union F1 F2)) (set.minus M2 (set.union F1 F2))))
+(set-info :status unsat)
+(check-sat)

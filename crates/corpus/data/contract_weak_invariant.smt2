@@ -1,0 +1,13 @@
+; As in contract_loop_invariant, but the invariant only says that the result is wanted. It doesn't give the end.
+(set-logic ALL)
+(declare-sort U 0)
+(declare-const Input (Set U))
+(declare-const Wanted (Set U))
+(declare-const Left (Set U))
+(declare-const Result (Set U))
+(assert (set.subset Result Wanted))
+(assert (set.subset Left Input))
+(assert (= Left (as set.empty (Set U))))
+(assert (distinct Result (set.inter Wanted Input)))
+(set-info :status sat)
+(check-sat)

@@ -1,0 +1,11 @@
+; Two parts that meet nowhere and make the whole: each is the whole without the other.
+(set-logic ALL)
+(declare-sort U 0)
+(declare-const Whole (Set U))
+(declare-const A (Set U))
+(declare-const B (Set U))
+(assert (= Whole (set.union A B)))
+(assert (= (set.inter A B) (as set.empty (Set U))))
+(assert (not (and (= A (set.minus Whole B)) (= B (set.minus Whole A)))))
+(set-info :status unsat)
+(check-sat)

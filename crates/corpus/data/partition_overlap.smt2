@@ -1,0 +1,11 @@
+; Two cuts of one set are independent of one another: all four pieces may be there.
+(set-logic ALL)
+(declare-sort U 0)
+(declare-const All (Set U))
+(declare-const A (Set U))
+(declare-const B (Set U))
+(assert (set.subset (set.union A B) All))
+(assert (distinct (as set.empty (Set U)) (set.inter A B) (set.minus A B) (set.minus B A)
+                  (set.minus All (set.union A B))))
+(set-info :status sat)
+(check-sat)

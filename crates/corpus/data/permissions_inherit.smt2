@@ -1,0 +1,13 @@
+; Owners may all that editors may, and editors all that readers may. Is there a right of readers that owners lack?
+(set-logic ALL)
+(declare-sort Right 0)
+(declare-const r Right)
+(declare-const Reader (Set Right))
+(declare-const Editor (Set Right))
+(declare-const Owner (Set Right))
+(assert (set.subset Reader Editor))
+(assert (set.subset Editor Owner))
+(assert (set.member r Reader))
+(assert (not (set.member r Owner)))
+(set-info :status unsat)
+(check-sat)
