@@ -1,6 +1,7 @@
 //! What an accepted derivation tells, and which ones are accepted.
 
 ghost use Rattle.sc_check.specs.Laws.{AcceptedRefute};
+ghost use Rattle.sc_check.specs.Claims.{AcceptedRefuteScripts};
 ghost use Rattle.sc_check.specs.Printed.{ProofsArePrinted, PrintedAreAccepted, EachIsAnswered, ChecksAcceptPrinted};
 ghost use Rattle.sc_check.specs.Transcripts.{TranscriptsAreCopies, ChecksAcceptTranscripts};
 
@@ -9,7 +10,10 @@ use sc_deriv::{accepts_closed_trees, closed_trees_refute};
 use sc_deriv_text::{items_have_tokens, texts_have_tokens};
 use sc_elab::elaboration_grows_bank;
 use sc_flatten::{meanings_agree, stocks_are_problems, stocks_stay};
-use sc_session::{proofs_refute, sessions_say_the_same, traces_go_along};
+use sc_session::{
+    proofs_refute, sessions_say_the_same, traces_go_along, traces_keep_formulas,
+    traces_say_the_same,
+};
 use sc_sexpr::{items_have_all_tokens, splitters_give_items};
 use sc_terms::meanings_fit;
 
@@ -23,6 +27,19 @@ pub fn accepted_derivations_refute()
     meanings_fit();
     stocks_are_problems();
     meanings_agree();
+}
+
+/// Where a derivation is accepted for a `(get-proof)` of a script that is followed up to its
+/// `(exit)`, the script's own assertions there contradict one another: in the script's own terms,
+/// under every interpretation of the constants, one of them is false.
+pub fn accepted_derivations_refute_scripts()
+    ensures { AcceptedRefuteScripts }
+{
+    accepted_derivations_refute();
+    traces_say_the_same();
+    traces_keep_formulas();
+    elaboration_grows_bank();
+    stocks_stay();
 }
 
 /// What a script prints where it is solved is accepted where the same script is checked: each text
