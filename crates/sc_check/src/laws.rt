@@ -10,6 +10,7 @@ use sc_deriv::{accepts_closed_trees, closed_trees_refute};
 use sc_deriv_text::{items_have_tokens, texts_have_tokens};
 use sc_elab::elaboration_grows_bank;
 use sc_flatten::{meanings_agree, stocks_are_problems, stocks_stay};
+use sc_print::errors_read_back;
 use sc_session::{
     proofs_refute, sessions_say_the_same, traces_go_along, traces_keep_formulas,
     traces_say_the_same,
@@ -64,11 +65,11 @@ pub fn printed_derivations_are_accepted()
     items_have_tokens();
 }
 
-/// The responses to a script, solved with just verdicts and without an error, as a transcript: the
-/// derivations among their items are those with which its `(get-proof)`s are answered, in order. So
-/// the check of an input that has the script up to its `(exit)`, and behind that the responses with
-/// any white space and comments between their tokens, accepts one derivation for each `(get-proof)`,
-/// and refuses none.
+/// The responses to a script, solved with just verdicts, as a transcript: the derivations among their
+/// items are those with which its `(get-proof)`s are answered, in order, also where the last response
+/// is an error. So the check of an input that has the script up to its `(exit)`, and behind that the
+/// responses with any white space and comments between their tokens, accepts each derivation that was
+/// printed, and refuses none. Where solving had no error, there is one for each `(get-proof)`.
 pub fn transcripts_are_accepted()
     ensures copies { TranscriptsAreCopies }
     ensures checks { ChecksAcceptTranscripts }
@@ -81,4 +82,5 @@ pub fn transcripts_are_accepted()
     splitters_give_items();
     items_have_all_tokens();
     codes_are_by_the_head();
+    errors_read_back();
 }
