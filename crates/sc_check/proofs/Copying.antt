@@ -158,14 +158,14 @@ module _ (have : TextsHaveTokens) where
       (same_exprs (plain_items is) t.exprs (items_proper is a.told) (spoken_proper t.exprs ds t.spoken) (sym (items_tokens is) ∙ tokens_are))
 
 pub transcripts_are_copies : ErrorsReadBack → ProofsRefute → SayTheSame → TextsHaveTokens → ItemsHaveTokens → AreByHead → TranscriptsAreCopies
-transcripts_are_copies errors refute say have items names text script reads budget verdicts just fits is a =
+transcripts_are_copies errors refute say have items names text script reads budget verdicts just is a =
     let told = all_told have (items_of most_bytes text).tops script.items reads.items in
-    copied have (course_of script verdicts).bytes (proofs_of script verdicts) (speaks errors refute say items names budget script.last script.items told start verdicts [] refute.starts just fits) is a
+    copied have (course_of script verdicts).bytes (proofs_of script verdicts) (speaks errors refute say items names budget script.last script.items told start verdicts [] refute.starts just) is a
 
 pub checks_accept_transcripts : ChecksAcceptPrinted → EachIsAnswered → AreItems → HaveAllTokens → TranscriptsAreCopies → ChecksAcceptTranscripts
-checks_accept_transcripts accept answered give all are_copies text script reads budget verdicts just fits input v y whole t j later parts same end =
+checks_accept_transcripts accept answered give all are_copies text script reads budget verdicts just input v y whole t j later parts same end =
     let items = covered give all v j.before j.behind y input (course_of script verdicts).bytes j.follows.items j.items j.leaves.i whole j.follows.gives j.leaves.next j.gives end same in
     (
-      accept false budget script verdicts just v y t j later parts fits (are_copies text script reads budget verdicts just fits j.items items),
+      accept false budget script verdicts just v y t j later parts (are_copies text script reads budget verdicts just j.items items),
       λ fine. answered budget script verdicts just fine j.script.asked (step j.script.session j.leaves.i).session.bank (followed_to v y t j script.items later parts),
     )

@@ -41,11 +41,11 @@ use Rattle.sc_deriv_text.specs.Laws.{ItemsHaveTokens}
 use Rattle.sc_deriv_text.proofs.ReadBack.{IsProper}
 use Rattle.sc_tree.specs.declared.verdict.Verdict.{Verdict}
 use Rattle.sc_tree.specs.declared.verdict.Verdict.TheVariants.{Sat, Unsat, Unknown}
-use Rattle.sc_tree.specs.Verdicts.{IsJust}
 use Rattle.sc_session.specs.Said as said
 use Rattle.sc_session.specs.Scripts.{Item}
 use Rattle.sc_session.specs.States.{State, with_verdict, proof}
 use Rattle.sc_session.specs.Effects.{Effect, Answers, Checks, line_of, declares, is_taken, declare_of, is_empty_list, assert_of, most_checks, get_proof, effect_of, turn, verdict_line}
+use Rattle.sc_session.specs.Giving.{IsGiven}
 use Rattle.sc_session.specs.Meaning.{Assertion}
 use Rattle.sc_session.specs.Courses.{Course, fault_line, at_last, course_after, course, just_after, AreJust}
 use Rattle.sc_session.specs.Laws.{SayTheSame}
@@ -273,7 +273,7 @@ missing e = absurd cc
 module _ (errors : ErrorsReadBack) (refute : ProofsRefute) (same : SayTheSame) (items : ItemsHaveTokens) (names : AreByHead) (budget : ℕ) (end : Last) where
   abbrev Ahead : List Item → Type 0
   Ahead is =
-      (t : State) (vs : List Verdict) (terms : List Assertion) → Proves t → AreJust false budget t terms is vs → AllByRecursion Fits (proofs t is vs) → Tells (course t is end vs).bytes (proofs t is vs)
+      (t : State) (vs : List Verdict) (terms : List Assertion) → Proves t → AreJust false budget t terms is vs → Tells (course t is end vs).bytes (proofs t is vs)
 
   module _ (s : State) (vs : List Verdict) (terms : List Assertion) (i : Item) (is : List Item) (proves : Proves s) (told : IsToldItem i) (ahead : Ahead is) where
     abbrev rest : State → List Verdict → List Derivation
@@ -287,35 +287,35 @@ module _ (errors : ErrorsReadBack) (refute : ProofsRefute) (same : SayTheSame) (
 
     -- what is said from here on
     abbrev Speaks : Option Derivation → Effect → List Verdict → Type 0
-    Speaks p e us = AllByRecursion Fits (with_proof p (proofs_after e s us rest)) → Tells (course_after e s us far).bytes (with_proof p (proofs_after e s us rest))
+    Speaks p e us = Tells (course_after e s us far).bytes (with_proof p (proofs_after e s us rest))
 
     checks : (problem : Parts) (us : List Verdict) → turn s i ≡ Checks problem → Just (Checks problem) us → Speaks None (Checks problem) us
-    checks problem [] e just fits = missing just
-    checks problem (v ∷ us) e just fits =
+    checks problem [] e just = missing just
+    checks problem (v ∷ us) e just =
         verdict_said v (far (with_verdict s v) us).bytes (rest (with_verdict s v) us)
-        (ahead (with_verdict s v) us terms (refute.checked s budget v (subst (λ p. IsJust p budget v) (same.checks s i problem e) just.0)) just.2 fits)
+        (ahead (with_verdict s v) us terms (refute.checked s budget v (subst (λ p. IsGiven p budget v) (same.checks s i problem e) just.0)) just.2)
 
     quietly : (e : Effect) → turn s i ≡ e → Says e → Just e vs → Speaks None e vs
-    quietly (Answers (said.Text bytes) t) e says just fits =
-        subst (λ x. Tells (x ++ (far t vs).bytes) (rest t vs)) (sym says) (ahead t vs _ (refute.goes_on s t i bytes proves e) just fits)
-    quietly (Answers (said.Error bytes) t) e says just fits = subst (λ x. Tells x []) (sym says.2) (error_said errors says.0 says.1)
-    quietly (Answers (said.Exit bytes) t) e says just fits = subst (λ x. Tells x []) (sym says) says_nothing
-    quietly (Checks problem) e says just fits = checks problem vs e just fits
+    quietly (Answers (said.Text bytes) t) e says just =
+        subst (λ x. Tells (x ++ (far t vs).bytes) (rest t vs)) (sym says) (ahead t vs _ (refute.goes_on s t i bytes proves e) just)
+    quietly (Answers (said.Error bytes) t) e says just = subst (λ x. Tells x []) (sym says.2) (error_said errors says.0 says.1)
+    quietly (Answers (said.Exit bytes) t) e says just = subst (λ x. Tells x []) (sym says) says_nothing
+    quietly (Checks problem) e says just = checks problem vs e just
 
     asks : (p : Option Derivation) → proof s ≡ p → Just (get_proof p s i.line) vs → Speaks p (get_proof p s i.line) vs
-    asks (Some d) is_proof just fits = proof_text items (far s vs).bytes d (rest s vs) (proves d is_proof).spelt fits.0 (ahead s vs _ proves just fits.1)
-    asks None is_proof just fits = error_said errors i.line code.E14
+    asks (Some d) is_proof just = proof_text items (far s vs).bytes d (rest s vs) (proves d is_proof).0.spelt (proves d is_proof).1 (ahead s vs _ proves just)
+    asks None is_proof just = error_said errors i.line code.E14
 
     by_kind : (c : Result CommandShape Code) → command_of i.shape ≡ c → (c ≡ Ok GetProof) ⊎ (((text : List ℕ) × (c ≡ Ok (Echo text))) ⊎ IsQuiet c) → Just (effect_of c s i.line) vs → Speaks (proof_for c s) (effect_of c s i.line) vs
     by_kind c is (inl e) just = subst (λ x. Speaks (proof_for x s) (effect_of x s i.line) vs) (sym e) (asks (proof s) refl (subst (λ x. Just (effect_of x s i.line) vs) e just))
     by_kind c is (inr (inl (text, e))) just =
         subst (λ x. Speaks (proof_for x s) (effect_of x s i.line) vs) (sym e)
-        (λ fits. echo_said text (far s vs).bytes (rest s vs) (echo_token names i text told (is ∙ e)) (ahead s vs _ proves (subst (λ x. Just (effect_of x s i.line) vs) e just) fits))
+        (echo_said text (far s vs).bytes (rest s vs) (echo_token names i text told (is ∙ e)) (ahead s vs _ proves (subst (λ x. Just (effect_of x s i.line) vs) e just)))
     by_kind c is (inr (inr q)) just = subst (λ p. Speaks p (effect_of c s i.line) vs) (sym (q.silent s)) (quietly (effect_of c s i.line) (ap (λ x. effect_of x s i.line) is) (q.says s i.line) just)
 
-    one_speaks : AreJust false budget s terms (i ∷ is) vs → AllByRecursion Fits (proofs s (i ∷ is) vs) → Tells (course s (i ∷ is) end vs).bytes (proofs s (i ∷ is) vs)
+    one_speaks : AreJust false budget s terms (i ∷ is) vs → Tells (course s (i ∷ is) end vs).bytes (proofs s (i ∷ is) vs)
     unfolding proofs course AreJust
-    one_speaks just fits = by_kind (command_of i.shape) refl (kind_of (command_of i.shape)) just fits
+    one_speaks just = by_kind (command_of i.shape) refl (kind_of (command_of i.shape)) just
 
   at_the_end : (l : Last) → Tells (at_last l).bytes []
   at_the_end last.End = says_nothing
@@ -326,5 +326,5 @@ module _ (errors : ErrorsReadBack) (refute : ProofsRefute) (same : SayTheSame) (
   none_speaks s vs = at_the_end end
 
   pub speaks : (is : List Item) → AllByRecursion IsToldItem is → Ahead is
-  speaks [] told s vs terms proves just fits = none_speaks s vs
-  speaks (i ∷ is) told s vs terms proves just fits = one_speaks s vs terms i is proves told.0 (speaks is told.1) just fits
+  speaks [] told s vs terms proves just = none_speaks s vs
+  speaks (i ∷ is) told s vs terms proves just = one_speaks s vs terms i is proves told.0 (speaks is told.1) just
