@@ -11,6 +11,7 @@ use Rattle.sc_sexpr.specs.Shapes.{Shape, Single, Listed, Shapes, Empty, More}
 use Rattle.sc_sexpr.specs.Laws.{AreItems}
 use Rattle.sc_sexpr.specs.Given.{HaveAllTokens}
 use Rattle.sc_commands.specs.Laws.{AreByHead}
+use Rattle.sc_print.specs.Readback.{ErrorsReadBack}
 use Rattle.sc_deriv.specs.declared.derivation.Derivation.{Derivation}
 use Rattle.sc_deriv.specs.Spelling.{IsSpelt}
 use Rattle.sc_deriv_text.specs.Laws.{TextsHaveTokens, ItemsHaveTokens}
@@ -28,7 +29,7 @@ use Rattle.sc_check.specs.Printed.{proofs_of, IsCopyOf, derivations_in, all_acce
 use Rattle.sc_check.specs.Transcripts.{IsToldItem, AreItemsOf, TranscriptsAreCopies, ChecksAcceptTranscripts}
 use Rattle.sc_check.proofs.Covering.{covered}
 use Rattle.sc_check.proofs.Printing.{followed_to}
-use Rattle.sc_check.proofs.Speaking.{Spoken, none, word, proved, Tells, speaks}
+use Rattle.sc_check.proofs.Speaking.{error_expr, Spoken, none, word, refused, proved, Tells, speaks}
 
 -- ---- the items are what is said
 abbrev AreProper : List Sexpr → Type 0
@@ -37,6 +38,7 @@ AreProper es = AllByRecursion (IsProper false) es
 spoken_proper : (es : List Sexpr) (ds : List Derivation) → Spoken es ds → AreProper es
 spoken_proper es ds none = tt
 spoken_proper es ds (word l more ds' p s) = (p, spoken_proper more ds' s)
+spoken_proper es ds (refused text more ds' s) = ((tt, (tt, tt)), spoken_proper more ds' s)
 spoken_proper es ds (proved d more ds' spelt fits s) = (derivation_proper d, spoken_proper more ds' s)
 
 some_token : (t : Sexpr) (xs : List Lexeme) → tokens false t ++ xs ≡ [] → ⊥
@@ -92,6 +94,22 @@ derivation_is (Single k text from line) ts e = absurd cc
 derivation_is (Listed line Empty) ts e = absurd cc
 derivation_is (Listed line (More s rest)) ts e = named_word s rest line (codes "derivation") (cons_is (plain s) (Atom (Word (codes "derivation"))) (plains rest) ts e) refl
 
+other_word : (s : Shape) (rest : Shapes) (line : ℕ) (text : List ℕ) → plain s ≡ Atom (Word text) → bytes_eq (codes "derivation") text ≡ false → is_derivation (Listed line (More s rest)) ≡ false
+other_word (Single kind.Word bytes from l) rest line text e is = let same_bytes : bytes ≡ text = cc in subst (λ x. bytes_eq (codes "derivation") x ≡ false) (sym same_bytes) is
+other_word (Single kind.Left bytes from l) rest line text e is = refl
+other_word (Single kind.Right bytes from l) rest line text e is = refl
+other_word (Single kind.Numeral bytes from l) rest line text e is = refl
+other_word (Single kind.Foreign bytes from l) rest line text e is = refl
+other_word (Single kind.Literal bytes from l) rest line text e is = refl
+other_word (Single kind.Quoted bytes from l) rest line text e is = refl
+other_word (Single kind.Keyword bytes from l) rest line text e is = refl
+other_word (Listed l inner) rest line text e is = refl
+
+error_is : (s : Shape) (ts : Sexpr) → plain s ≡ Cons (Atom (Word (codes "error"))) ts → is_derivation s ≡ false
+error_is (Single k text from line) ts e = refl
+error_is (Listed line Empty) ts e = refl
+error_is (Listed line (More s rest)) ts e = other_word s rest line (codes "error") (cons_is (plain s) (Atom (Word (codes "error"))) (plains rest) ts e) refl
+
 -- ---- copies
 module _ (have : TextsHaveTokens) where
   copy_of : (d : Derivation) (i : Item) → IsSpelt d → Fits d → IsToldItem i → plain i.shape ≡ derivation_expr d → IsCopyOf d i
@@ -116,6 +134,10 @@ module _ (have : TextsHaveTokens) where
   copies es ds (word l more ds' p s) (i ∷ is) told e =
       subst (λ b. AllZip IsCopyOf ds' (cond b (i ∷ derivations_in is) (derivations_in is))) (sym (word_is i.shape l (expr_is (plain i.shape) (Atom l) (plain_items is) more e)))
       (copies more ds' s is told.1 (others_are (plain i.shape) (Atom l) (plain_items is) more e))
+  copies es ds (refused text more ds' s) [] told e = absurd cc
+  copies es ds (refused text more ds' s) (i ∷ is) told e =
+      subst (λ b. AllZip IsCopyOf ds' (cond b (i ∷ derivations_in is) (derivations_in is))) (sym (error_is i.shape _ (expr_is (plain i.shape) (error_expr text) (plain_items is) more e)))
+      (copies more ds' s is told.1 (others_are (plain i.shape) (error_expr text) (plain_items is) more e))
   copies es ds (proved d more ds' spelt fits s) [] told e = absurd cc
   copies es ds (proved d more ds' spelt fits s) (i ∷ is) told e =
       let here : plain i.shape ≡ derivation_expr d = expr_is (plain i.shape) (derivation_expr d) (plain_items is) more e in
@@ -135,13 +157,15 @@ module _ (have : TextsHaveTokens) where
       copies t.exprs ds t.spoken is a.told
       (same_exprs (plain_items is) t.exprs (items_proper is a.told) (spoken_proper t.exprs ds t.spoken) (sym (items_tokens is) ∙ tokens_are))
 
-pub transcripts_are_copies : ProofsRefute → SayTheSame → TextsHaveTokens → ItemsHaveTokens → AreByHead → TranscriptsAreCopies
-transcripts_are_copies refute say have items names text script reads budget verdicts just fine fits is a =
+pub transcripts_are_copies : ErrorsReadBack → ProofsRefute → SayTheSame → TextsHaveTokens → ItemsHaveTokens → AreByHead → TranscriptsAreCopies
+transcripts_are_copies errors refute say have items names text script reads budget verdicts just is a =
     let told = all_told have (items_of most_bytes text).tops script.items reads.items in
-    copied have (course_of script verdicts).bytes (proofs_of script verdicts) (speaks refute say items names budget script.last script.items told start verdicts [] refute.starts just fine fits) is a
+    copied have (course_of script verdicts).bytes (proofs_of script verdicts) (speaks errors refute say items names budget script.last script.items told start verdicts [] refute.starts just) is a
 
 pub checks_accept_transcripts : ChecksAcceptPrinted → EachIsAnswered → AreItems → HaveAllTokens → TranscriptsAreCopies → ChecksAcceptTranscripts
-checks_accept_transcripts accept answered give all are_copies text script reads budget verdicts just fine fits input v y whole t j later parts same end =
+checks_accept_transcripts accept answered give all are_copies text script reads budget verdicts just input v y whole t j later parts same end =
     let items = covered give all v j.before j.behind y input (course_of script verdicts).bytes j.follows.items j.items j.leaves.i whole j.follows.gives j.leaves.next j.gives end same in
-    accept false budget script verdicts just v y t j later parts fits (are_copies text script reads budget verdicts just fine fits j.items items)
-    ∙ ap all_accepted (answered budget script verdicts just fine j.script.asked (step j.script.session j.leaves.i).session.bank (followed_to v y t j script.items later parts))
+    (
+      accept false budget script verdicts just v y t j later parts (are_copies text script reads budget verdicts just j.items items),
+      λ fine. answered budget script verdicts just fine j.script.asked (step j.script.session j.leaves.i).session.bank (followed_to v y t j script.items later parts),
+    )

@@ -12,3 +12,4 @@ pub mod Speaking
 pub mod Unended
 pub mod Covering
 pub mod Copying
+pub mod Claiming

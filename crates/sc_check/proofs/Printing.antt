@@ -29,12 +29,13 @@ use Rattle.sc_deriv_text.specs.Spelling.{derivation_expr, Fits}
 use Rattle.sc_deriv_text.specs.Text.{item_of, text_of}
 use Rattle.sc_deriv_text.proofs.ReadBack.{shapes_read_back}
 use Rattle.sc_tree.specs.declared.verdict.Verdict.{Verdict}
-use Rattle.sc_tree.specs.Verdicts.{Refutes, IsJust}
+use Rattle.sc_tree.specs.Verdicts.{Refutes}
 use Rattle.sc_session.specs.Said as said
 use Rattle.sc_session.specs.declared.tracing.Traced.TheVariants as traced
 use Rattle.sc_session.specs.Scripts.{Item, IsTold}
 use Rattle.sc_session.specs.States.{State, start, with_verdict, proof}
 use Rattle.sc_session.specs.Effects.{Effect, Answers, Checks, get_proof, effect_of, turn, verdict_line}
+use Rattle.sc_session.specs.Giving.{IsGiven}
 use Rattle.sc_session.specs.Meaning.{Assertion}
 use Rattle.sc_session.specs.Courses.{Course, course_after, course, just_after, AreJust}
 use Rattle.sc_session.specs.Tracing.{step, GoesOn}
@@ -48,11 +49,11 @@ use Rattle.sc_check.proofs.Asking.{IsOther, kind_of, known_quiet, is_loud, goes_
 use Rattle.sc_check.proofs.Growing.{Elaborates, IsSound, begins_then, grow, reach}
 
 -- ---- the proofs of a course, and what is asked where it is followed
--- each derivation refutes the problem of the assertions at its place
+-- each derivation refutes the problem of the assertions at its place, and can be read back
 abbrev Answered : List Node → List Derivation → List (List ℕ) → Type 0
 Answered bank [] lists = Unit {0}
 Answered bank (d ∷ ds) [] = ⊥
-Answered bank (d ∷ ds) (ns ∷ lists) = Refutes (stock bank ns) d × Answered bank ds lists
+Answered bank (d ∷ ds) (ns ∷ lists) = Refutes (stock bank ns) d × Fits d × Answered bank ds lists
 
 record Meets (bank : List Node) (before asked : List (List ℕ)) (ds : List Derivation) : Type 0 where
   news : List (List ℕ)
@@ -115,7 +116,7 @@ module _
     checks problem [] e just = no_more
     checks problem (v ∷ us) e just =
         let step_is = along.checked s [] i problem v e in
-        quietly (with_verdict s v) us terms (refute.checked s budget v (subst (λ p. IsJust p budget v) (same.checks s i problem e) just.0)) just.2 step_is.0 step_is.1
+        quietly (with_verdict s v) us terms (refute.checked s budget v (subst (λ p. IsGiven p budget v) (same.checks s i problem e) just.0)) just.2 step_is.0 step_is.1
 
     other : ((ns : List ℕ) → (step (beside s []) i).given ≡ traced.Proof ns → ⊥) → (e : Effect) → turn s i ≡ e → Just e → Meets final before asked (proofs_after e s vs rest)
     other unasked (Answers (said.Text bytes) t) e just =
@@ -139,7 +140,7 @@ module _
             record {
               news = in_force ∷ others.news;
               parts = others.parts ∙ append_assoc before (in_force ∷ []) others.news;
-              answered = (subst (λ p. Refutes p d) (sym still) (proves d is_proof), others.answered);
+              answered = (subst (λ p. Refutes p d) (sym still) (proves d is_proof).0, (proves d is_proof).1, others.answered);
             }
 
     asks : (p : Option Derivation) → proof s ≡ p → (e : Effect) → turn s i ≡ e → e ≡ get_proof p s i.line → ((step (beside s []) i).given ≡ traced.Nothing → ⊥) → Just e → Meets final before asked (with_proof p (proofs_after e s vs rest))
@@ -179,6 +180,7 @@ record IsAsked (bank : List Node) (lists : List (List ℕ)) (k : ℕ) (d : Deriv
   assertions : List ℕ
   at : slice_get lists k ≡ Some assertions
   refutes : Refutes (stock bank assertions) d
+  fits : Fits d
 
 derivation_is : (d e : Derivation) → Some d ≡ Some e → d ≡ e
 derivation_is d e h = cc
@@ -186,8 +188,8 @@ derivation_is d e h = cc
 asked_at : (bank : List Node) (ds : List Derivation) (lists : List (List ℕ)) → Answered bank ds lists → (k : ℕ) (d : Derivation) → slice_get ds k ≡ Some d → IsAsked bank lists k d
 asked_at bank [] lists a k d e = absurd cc
 asked_at bank (x ∷ ds) [] a k d e = absurd a
-asked_at bank (x ∷ ds) (ns ∷ lists) a zero d e = record { assertions = ns; at = refl; refutes = subst (Refutes (stock bank ns)) (derivation_is x d e) a.0 }
-asked_at bank (x ∷ ds) (ns ∷ lists) a (suc k) d e = let r = asked_at bank ds lists a.1 k d e in record { assertions = r.assertions; at = r.at; refutes = r.refutes }
+asked_at bank (x ∷ ds) (ns ∷ lists) a zero d e = record { assertions = ns; at = refl; refutes = subst (Refutes (stock bank ns)) (derivation_is x d e) a.0; fits = subst Fits (derivation_is x d e) a.1 }
+asked_at bank (x ∷ ds) (ns ∷ lists) a (suc k) d e = let r = asked_at bank ds lists a.2 k d e in record { assertions = r.assertions; at = r.at; refutes = r.refutes; fits = r.fits }
 
 -- a text that is no more than these tokens
 nothing_left : first true [] ≡ End Whole
@@ -204,11 +206,11 @@ module _ (accepts : AcceptsClosedTrees) (have : TextsHaveTokens) (items_begin : 
       let tokens_are = (one true (text_of d) copy.tokens (tokens_of (derivation_expr d)) Whole Whole copy.printed (have d spelt fits)).0 in
       shapes_read_back d spelt fits copy.piece.text copy.piece.line i.shape (subst (λ ts. Reads true copy.piece.text ts Whole) tokens_are copy.copied) copy.told.tokens
 
-  copy_accepted : (k : ℕ) (d : Derivation) (i : Item) → IsAsked bank asked k d → Fits d → IsCopyOf d i → finding bank (slice_get asked k) i.shape ≡ found.Judged Accepted
-  copy_accepted k d i a fits copy =
+  copy_accepted : (k : ℕ) (d : Derivation) (i : Item) → IsAsked bank asked k d → IsCopyOf d i → finding bank (slice_get asked k) i.shape ≡ found.Judged Accepted
+  copy_accepted k d i a copy =
       let problem : Parts = stock bank a.assertions in
       ap (λ o. finding bank o i.shape) a.at
-      ∙ ap (λ r. found.Judged (judged problem r)) (copy_reads d i a.refutes.spelt fits copy)
+      ∙ ap (λ r. found.Judged (judged problem r)) (copy_reads d i a.refutes.spelt a.fits copy)
       ∙ ap (λ j. found.Judged j) ((accepts problem (hypotheses_of d.lemmas) (root_facts problem.roots) d.nodes).1 a.refutes.closed)
 
   own_text : (d : Derivation) (i : Item) (line : ℕ) → IsSpelt d → Fits d → IsTold (record { text = item_of d; line = line }) i → IsCopyOf d i
@@ -224,48 +226,48 @@ module _ (accepts : AcceptsClosedTrees) (have : TextsHaveTokens) (items_begin : 
 
   -- the derivations that are still to come
   abbrev Come : ℕ → List Derivation → Type 0
-  Come n ds = (k : ℕ) (d : Derivation) (i : Item) → slice_get ds k ≡ Some d → Fits d → IsCopyOf d i → finding bank (slice_get asked (n + k)) i.shape ≡ found.Judged Accepted
+  Come n ds = (k : ℕ) (d : Derivation) (i : Item) → slice_get ds k ≡ Some d → IsCopyOf d i → finding bank (slice_get asked (n + k)) i.shape ≡ found.Judged Accepted
 
   later : (n : ℕ) (d : Derivation) (ds : List Derivation) → Come n (d ∷ ds) → Come (suc n) ds
-  later n d ds come k e i at fits copy =
+  later n d ds come k e i at copy =
       let shifted : n + suc k ≡ suc n + k = omega arith in
-      subst (λ m. finding bank (slice_get asked m) i.shape ≡ found.Judged Accepted) shifted (come (suc k) e i at fits copy)
+      subst (λ m. finding bank (slice_get asked m) i.shape ≡ found.Judged Accepted) shifted (come (suc k) e i at copy)
 
   next_line : (n : ℕ) → with_finding (all_accepted n) (found.Judged Accepted) ≡ all_accepted (suc n)
   next_line n = let one_more : n + 1 ≡ suc n = omega arith in ap (λ m. record { bytes = accepted_lines n ++ finding_line m (found.Judged Accepted); count = m; refused = false }) one_more
 
-  judged_next : (n : ℕ) (d : Derivation) (ds : List Derivation) (i : Item) → Come n (d ∷ ds) → Fits d → IsCopyOf d i → with_finding (all_accepted n) (finding bank (slice_get asked n) i.shape) ≡ all_accepted (suc n)
-  judged_next n d ds i come fits copy =
+  judged_next : (n : ℕ) (d : Derivation) (ds : List Derivation) (i : Item) → Come n (d ∷ ds) → IsCopyOf d i → with_finding (all_accepted n) (finding bank (slice_get asked n) i.shape) ≡ all_accepted (suc n)
+  judged_next n d ds i come copy =
       let here : n + 0 ≡ n = omega arith in
-      ap (with_finding (all_accepted n)) (subst (λ m. finding bank (slice_get asked m) i.shape ≡ found.Judged Accepted) here (come 0 d i refl fits copy)) ∙ next_line n
+      ap (with_finding (all_accepted n)) (subst (λ m. finding bank (slice_get asked m) i.shape ≡ found.Judged Accepted) here (come 0 d i refl copy)) ∙ next_line n
 
   -- an item of the transcript
-  one_item : (n : ℕ) (ds : List Derivation) (i : Item) (items : List Item) → Come n ds → AllByRecursion Fits ds
-      → ((m : ℕ) (es : List Derivation) → Come m es → AllByRecursion Fits es → AllZip IsCopyOf es (derivations_in items) → tally bank asked (all_accepted m) items ≡ all_accepted (m + length es))
+  one_item : (n : ℕ) (ds : List Derivation) (i : Item) (items : List Item) → Come n ds
+      → ((m : ℕ) (es : List Derivation) → Come m es → AllZip IsCopyOf es (derivations_in items) → tally bank asked (all_accepted m) items ≡ all_accepted (m + length es))
       → (b : Bool) → is_derivation i.shape ≡ b → AllZip IsCopyOf ds (cond b (i ∷ derivations_in items) (derivations_in items))
       → tally bank asked (if b then with_finding (all_accepted n) (finding bank (slice_get asked n) i.shape) else all_accepted n) items ≡ all_accepted (n + length ds)
-  one_item n ds i items come fits ahead false e zip = ahead n ds come fits zip
-  one_item n [] i items come fits ahead true e zip = absurd zip
-  one_item n (d ∷ ds) i items come fits ahead true e zip =
+  one_item n ds i items come ahead false e zip = ahead n ds come zip
+  one_item n [] i items come ahead true e zip = absurd zip
+  one_item n (d ∷ ds) i items come ahead true e zip =
       let shifted : suc n + length ds ≡ n + suc (length ds) = omega arith in
-      ap (λ t. tally bank asked t items) (judged_next n d ds i come fits.0 zip.0) ∙ ahead (suc n) ds (later n d ds come) fits.1 zip.1 ∙ ap all_accepted shifted
+      ap (λ t. tally bank asked t items) (judged_next n d ds i come zip.0) ∙ ahead (suc n) ds (later n d ds come) zip.1 ∙ ap all_accepted shifted
 
   no_items : (n : ℕ) (ds : List Derivation) → AllZip IsCopyOf ds [] → all_accepted n ≡ all_accepted (n + length ds)
   no_items n [] zip = let same : n ≡ n + 0 = omega arith in ap all_accepted same
   no_items n (d ∷ ds) zip = absurd zip
 
-  all_lines : (items : List Item) (n : ℕ) (ds : List Derivation) → Come n ds → AllByRecursion Fits ds → AllZip IsCopyOf ds (derivations_in items) → tally bank asked (all_accepted n) items ≡ all_accepted (n + length ds)
-  all_lines [] n ds come fits zip = no_items n ds zip
-  all_lines (i ∷ items) n ds come fits zip = one_item n ds i items come fits (all_lines items) (is_derivation i.shape) refl zip
+  all_lines : (items : List Item) (n : ℕ) (ds : List Derivation) → Come n ds → AllZip IsCopyOf ds (derivations_in items) → tally bank asked (all_accepted n) items ≡ all_accepted (n + length ds)
+  all_lines [] n ds come zip = no_items n ds zip
+  all_lines (i ∷ items) n ds come zip = one_item n ds i items come (all_lines items) (is_derivation i.shape) refl zip
 
   are_accepted : (ds : List Derivation) → ((k : ℕ) (d : Derivation) → slice_get ds k ≡ Some d → IsAsked bank asked k d) → AreAccepted bank asked ds
   are_accepted ds a =
-      let copies : (k : ℕ) (d : Derivation) (i : Item) → slice_get ds k ≡ Some d → Fits d → IsCopyOf d i → finding bank (slice_get asked k) i.shape ≡ found.Judged Accepted = λ k d i at. copy_accepted k d i (a k d at) in
-      let come : Come 0 ds = λ k d i at fits copy. let shifted : k ≡ 0 + k = omega arith in subst (λ m. finding bank (slice_get asked m) i.shape ≡ found.Judged Accepted) shifted (copies k d i at fits copy) in
+      let copies : (k : ℕ) (d : Derivation) (i : Item) → slice_get ds k ≡ Some d → IsCopyOf d i → finding bank (slice_get asked k) i.shape ≡ found.Judged Accepted = λ k d i at. copy_accepted k d i (a k d at) in
+      let come : Come 0 ds = λ k d i at copy. let shifted : k ≡ 0 + k = omega arith in subst (λ m. finding bank (slice_get asked m) i.shape ≡ found.Judged Accepted) shifted (copies k d i at copy) in
       record {
-        own_texts = λ k d i line at. own_text d i line (a k d at).refutes.spelt;
+        own_texts = λ k d i line at. own_text d i line (a k d at).refutes.spelt (a k d at).fits;
         copies = copies;
-        lines = λ items fits zip. let shifted : 0 + length ds ≡ length ds = omega arith in all_lines items 0 ds come fits zip ∙ ap all_accepted shifted;
+        lines = λ items zip. let shifted : 0 + length ds ≡ length ds = omega arith in all_lines items 0 ds come zip ∙ ap all_accepted shifted;
       }
 
 nothing_made : IsBank []
@@ -287,8 +289,8 @@ module _ (grows : Elaborates) (stocks : StocksStay) (refute : ProofsRefute) (alo
       are_accepted accepts have items_begin bank asked (proofs_of script verdicts) (λ k d at. asked_at bank (proofs_of script verdicts) asked (subst (Answered bank (proofs_of script verdicts)) (sym meets.parts) there) k d at)
 
   pub checks_accept_printed : ChecksAcceptPrinted
-  checks_accept_printed may_miss budget script verdicts just v y t j later_items parts fits copies =
-      j.tallied ∙ (printed_are_accepted may_miss budget script verdicts just j.script.asked (step j.script.session j.leaves.i).session.bank (followed_to v y t j script.items later_items parts)).lines j.items fits copies
+  checks_accept_printed may_miss budget script verdicts just v y t j later_items parts copies =
+      j.tallied ∙ (printed_are_accepted may_miss budget script verdicts just j.script.asked (step j.script.session j.leaves.i).session.bank (followed_to v y t j script.items later_items parts)).lines j.items copies
 
 -- ---- the texts stand in the responses
 later_bytes : (bytes rest : List ℕ) (ds : List Derivation) → Prints ds rest → Prints ds (bytes ++ rest)

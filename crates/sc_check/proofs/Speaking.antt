@@ -1,5 +1,5 @@
 -- The responses to a script have the tokens of words, literals and derivations.
-use Rattle.std.proofs.Common.{◌≡◌, if◌then◌else◌, nat_le, ℕ, Bool, true, false, List, [], ◌∷◌, ◌++◌, length, take, Option, Some, None, Result, Ok, Err, refl, sym, ap, ◌∙◌, append_assoc, subst, inl, inr}
+use Rattle.std.proofs.Common.{◌≡◌, if◌then◌else◌, nat_le, ℕ, Bool, true, false, List, [], ◌∷◌, ◌++◌, length, take, Option, Some, None, Result, Ok, Err, refl, sym, ap, ◌∙◌, append_assoc, append-nil, subst, inl, inr}
 use Rattle.std.specs.Prelude.{◌⊎◌, codes, ok_or}
 use Rattle.std.specs.Str.{bytes_eq}
 use Rattle.std.specs.List.{AllByRecursion, flat_map}
@@ -14,6 +14,8 @@ use Rattle.sc_text.specs.Fronts.{front, gap, after_gap}
 use Rattle.sc_text.specs.Readings.{Lexeme, Word, Literal, End, first, Reads, Begins, Whole}
 use Rattle.sc_text.proofs.Gaps.{are_passed_over}
 use Rattle.sc_text.proofs.Readings.{Reads-then}
+use Rattle.sc_sexpr.specs.declared.item.Fault.{Fault as TextFault}
+use Rattle.sc_sexpr.specs.declared.item.Fault.TheVariants.{Lexical, Unmatched, Unclosed, Limit}
 use Rattle.sc_sexpr.specs.declared.item.Last.{Last}
 use Rattle.sc_sexpr.specs.declared.item.Last.TheVariants as last
 use Rattle.sc_sexpr.specs.Shapes.{Shape, Single, Listed, Shapes, Empty, More}
@@ -21,8 +23,8 @@ use Rattle.sc_sexpr.specs.Trees.{Mark, Opens, Closes, Word as Marked, mark, mark
 use Rattle.sc_commands.specs.Commands.{CommandShape, SetLogic, SetInfo, DeclareSort, DeclareConst, DeclareFun, Assert, CheckSat, GetProof, Echo, Exit}
 use Rattle.sc_commands.specs.Forms.{echo, form_of, by_form, command_of}
 use Rattle.sc_commands.specs.Laws.{AreByHead, BeginsWith}
-use Rattle.sc_print.specs.Spelling.{is_simple}
-use Rattle.sc_print.specs.Readback.{is_apart}
+use Rattle.sc_print.specs.Spelling.{is_simple, code_text, error_text, spelt_error}
+use Rattle.sc_print.specs.Readback.{is_apart, ErrorsReadBack}
 use Rattle.sc_print.proofs.SymbolsBack.{bare}
 use Rattle.sc_terms.specs.declared.nodes.Sort.{Sort}
 use Rattle.sc_terms.specs.declared.problem.Parts.{Parts}
@@ -32,20 +34,20 @@ use Rattle.sc_elab.specs.Elab.{core}
 use Rattle.sc_elab.specs.Sorts.{sort_of}
 use Rattle.sc_deriv.specs.declared.derivation.Derivation.{Derivation}
 use Rattle.sc_deriv.specs.Spelling.{IsSpelt}
-use Rattle.sc_deriv_text.specs.Sexpr.{Sexpr, Atom, tokens_of}
+use Rattle.sc_deriv_text.specs.Sexpr.{Sexpr, Atom, list_of, tokens_of}
 use Rattle.sc_deriv_text.specs.Spelling.{derivation_expr, Fits}
 use Rattle.sc_deriv_text.specs.Text.{item_of, text_of}
 use Rattle.sc_deriv_text.specs.Laws.{ItemsHaveTokens}
 use Rattle.sc_deriv_text.proofs.ReadBack.{IsProper}
 use Rattle.sc_tree.specs.declared.verdict.Verdict.{Verdict}
 use Rattle.sc_tree.specs.declared.verdict.Verdict.TheVariants.{Sat, Unsat, Unknown}
-use Rattle.sc_tree.specs.Verdicts.{IsJust}
 use Rattle.sc_session.specs.Said as said
 use Rattle.sc_session.specs.Scripts.{Item}
 use Rattle.sc_session.specs.States.{State, with_verdict, proof}
 use Rattle.sc_session.specs.Effects.{Effect, Answers, Checks, line_of, declares, is_taken, declare_of, is_empty_list, assert_of, most_checks, get_proof, effect_of, turn, verdict_line}
+use Rattle.sc_session.specs.Giving.{IsGiven}
 use Rattle.sc_session.specs.Meaning.{Assertion}
-use Rattle.sc_session.specs.Courses.{Course, at_last, course_after, course, just_after, AreJust}
+use Rattle.sc_session.specs.Courses.{Course, fault_line, at_last, course_after, course, just_after, AreJust}
 use Rattle.sc_session.specs.Laws.{SayTheSame}
 use Rattle.sc_session.specs.Proving.{Proves, ProofsRefute}
 use Rattle.sc_check.specs.Printed.{proof_for, with_proof, proofs_after, proofs}
@@ -53,10 +55,15 @@ use Rattle.sc_check.specs.Transcripts.{IsToldItem}
 use Rattle.sc_check.proofs.Literals.{literal_begins}
 
 -- ---- what is said
--- words, literals and derivations, and the derivations among them
+-- (error l), for a literal l
+abbrev pub error_expr : List ℕ → Sexpr
+error_expr text = list_of (Atom (Word (codes "error")) ∷ Atom (Literal text) ∷ [])
+
+-- words, literals, derivations and errors, and the derivations among them
 pub data Spoken : List Sexpr → List Derivation → Type 0 where
   none : Spoken [] []
   word : (l : Lexeme) (es : List Sexpr) (ds : List Derivation) → IsProper false (Atom l) → Spoken es ds → Spoken (Atom l ∷ es) ds
+  refused : (text : List ℕ) (es : List Sexpr) (ds : List Derivation) → Spoken es ds → Spoken (error_expr text ∷ es) ds
   proved : (d : Derivation) (es : List Sexpr) (ds : List Derivation) → IsSpelt d → Fits d → Spoken es ds → Spoken (derivation_expr d ∷ es) (d ∷ ds)
 
 pub record Tells (bytes : List ℕ) (ds : List Derivation) : Type 0 where
@@ -93,6 +100,25 @@ proof_text items rest d ds spelt fits t =
       spoken = proved d t.exprs ds spelt fits t.spoken;
       reads = subst (λ x. Reads true (x ++ rest) (tokens_of (derivation_expr d) ++ flat_map tokens_of t.exprs) Whole) (sym told.0) (line_then (item_of d) rest (tokens_of (derivation_expr d)) (flat_map tokens_of t.exprs) (told.1 spelt fits (10 ∷ rest)) t.reads);
     }
+
+-- an error ends what is said
+abbrev quoted : ℕ → Code → List ℕ
+quoted line c = 34 ∷ error_text line (code_text c) ++ 34 ∷ []
+
+error_said : ErrorsReadBack → (line : ℕ) (c : Code) → Tells (spelt_error line c) []
+error_said errors line c = record {
+  exprs = error_expr (quoted line c) ∷ [];
+  spoken = refused (quoted line c) [] [] none;
+  reads =
+      subst (λ x. Reads true x (tokens_of (error_expr (quoted line c)) ++ []) Whole) (append-nil (spelt_error line c))
+      (Reads-then true (tokens_of (error_expr (quoted line c))) [] Whole (spelt_error line c ++ []) (10 ∷ []) (errors line c []) (line_reads [] [] nothing_left));
+}
+
+fault_said : ErrorsReadBack → (f : TextFault) → Tells (fault_line f) []
+fault_said errors (Lexical line) = error_said errors line code.E1
+fault_said errors (Unmatched line) = error_said errors line code.E2
+fault_said errors (Unclosed line) = error_said errors line code.E3
+fault_said errors (Limit line number) = error_said errors line (code.E16 number)
 
 line_apart : (rest : List ℕ) → is_apart (10 ∷ rest) ≡ true
 unfolding is_symbol_byte
@@ -194,7 +220,7 @@ echo_said text rest ds t told = word_line text rest (Literal text) ds tt (subst 
 -- ---- what the other commands say
 abbrev Says : Effect → Type 0
 Says (Answers (said.Text bytes) t) = bytes ≡ []
-Says (Answers (said.Error bytes) t) = Unit {0}
+Says (Answers (said.Error bytes) t) = (line : ℕ) × (c : Code) × (bytes ≡ spelt_error line c)
 Says (Answers (said.Exit bytes) t) = bytes ≡ []
 Says (Checks problem) = Unit {0}
 
@@ -204,15 +230,15 @@ either P false x y p q = q
 
 module _ (s : State) (line : ℕ) where
   declares_says : (fault : Option Code) (names : Names) (t : State) → Says (declares fault names t line)
-  declares_says (Some c) names t = tt
+  declares_says (Some c) names t = (line, c, refl)
   declares_says None names t = refl
 
   declared_says : (sort : Result Sort Code) (name : List ℕ) (t : State) → Says (declare_of sort name t line)
-  declared_says (Err c) name t = tt
+  declared_says (Err c) name t = (line, c, refl)
   declared_says (Ok sort) name t = declares_says (fault_of t.names name (length t.names.constants)) (with_constant t.names (record { name = name; sort = sort })) t
 
   asserted_says : (o : Outcome ℕ) (t : State) → Says (assert_of o t line)
-  asserted_says (Fault c bank) t = tt
+  asserted_says (Fault c bank) t = (line, c, refl)
   asserted_says (Done n bank) t = refl
 
 record IsQuiet (c : Result CommandShape Code) : Type 0 where
@@ -220,37 +246,34 @@ record IsQuiet (c : Result CommandShape Code) : Type 0 where
   says : (s : State) (line : ℕ) → Says (effect_of c s line)
 
 kind_of : (c : Result CommandShape Code) → (c ≡ Ok GetProof) ⊎ (((text : List ℕ) × (c ≡ Ok (Echo text))) ⊎ IsQuiet c)
-kind_of (Err c) = inr (inr (record { silent = λ s. refl; says = λ s line. tt }))
+kind_of (Err c) = inr (inr (record { silent = λ s. refl; says = λ s line. (line, c, refl) }))
 kind_of (Ok SetLogic) = inr (inr (record { silent = λ s. refl; says = λ s line. refl }))
 kind_of (Ok SetInfo) = inr (inr (record { silent = λ s. refl; says = λ s line. refl }))
 kind_of (Ok (DeclareSort name arity)) =
     inr (inr (record {
       silent = λ s. refl;
-      says = λ s line. either Says (is_taken s.names name) _ _ tt (either Says (bytes_eq (codes "0") arity) _ _ (declares_says s line (fault_of s.names name (length s.names.sorts)) (with_sort s.names name) s) tt);
+      says = λ s line. either Says (is_taken s.names name) _ _ (line, code.E9, refl) (either Says (bytes_eq (codes "0") arity) _ _ (declares_says s line (fault_of s.names name (length s.names.sorts)) (with_sort s.names name) s) (line, code.E8, refl));
     }))
-kind_of (Ok (DeclareConst name sort)) = inr (inr (record { silent = λ s. refl; says = λ s line. either Says (is_taken s.names name) _ _ tt (declared_says s line (sort_of s.names sort) name s) }))
+kind_of (Ok (DeclareConst name sort)) = inr (inr (record { silent = λ s. refl; says = λ s line. either Says (is_taken s.names name) _ _ (line, code.E9, refl) (declared_says s line (sort_of s.names sort) name s) }))
 kind_of (Ok (DeclareFun name arguments range)) =
     inr (inr (record {
       silent = λ s. refl;
-      says = λ s line. either Says (is_taken s.names name) _ _ tt (either Says (is_empty_list arguments) _ _ (declared_says s line (sort_of s.names range) name s) tt);
+      says = λ s line. either Says (is_taken s.names name) _ _ (line, code.E9, refl) (either Says (is_empty_list arguments) _ _ (declared_says s line (sort_of s.names range) name s) (line, code.E8, refl));
     }))
 kind_of (Ok (Assert term)) = inr (inr (record { silent = λ s. refl; says = λ s line. asserted_says s line (core term (record { bank = s.bank; names = s.names })) s }))
-kind_of (Ok CheckSat) = inr (inr (record { silent = λ s. refl; says = λ s line. either Says (nat_le most_checks s.checks) _ _ tt tt }))
+kind_of (Ok CheckSat) = inr (inr (record { silent = λ s. refl; says = λ s line. either Says (nat_le most_checks s.checks) _ _ (line, code.E16 most_checks, refl) tt }))
 kind_of (Ok GetProof) = inl refl
 kind_of (Ok (Echo text)) = inr (inl (text, refl))
 kind_of (Ok Exit) = inr (inr (record { silent = λ s. refl; says = λ s line. refl }))
 
 -- ---- the whole script
-failing : {A : Type 0} → true ≡ false → A
-failing e = absurd cc
-
 missing : {A : Type 0} → false ≡ true → A
 missing e = absurd cc
 
-module _ (refute : ProofsRefute) (same : SayTheSame) (items : ItemsHaveTokens) (names : AreByHead) (budget : ℕ) (end : Last) where
+module _ (errors : ErrorsReadBack) (refute : ProofsRefute) (same : SayTheSame) (items : ItemsHaveTokens) (names : AreByHead) (budget : ℕ) (end : Last) where
   abbrev Ahead : List Item → Type 0
   Ahead is =
-      (t : State) (vs : List Verdict) (terms : List Assertion) → Proves t → AreJust false budget t terms is vs → (course t is end vs).fails ≡ false → AllByRecursion Fits (proofs t is vs) → Tells (course t is end vs).bytes (proofs t is vs)
+      (t : State) (vs : List Verdict) (terms : List Assertion) → Proves t → AreJust false budget t terms is vs → Tells (course t is end vs).bytes (proofs t is vs)
 
   module _ (s : State) (vs : List Verdict) (terms : List Assertion) (i : Item) (is : List Item) (proves : Proves s) (told : IsToldItem i) (ahead : Ahead is) where
     abbrev rest : State → List Verdict → List Derivation
@@ -264,44 +287,44 @@ module _ (refute : ProofsRefute) (same : SayTheSame) (items : ItemsHaveTokens) (
 
     -- what is said from here on
     abbrev Speaks : Option Derivation → Effect → List Verdict → Type 0
-    Speaks p e us = (course_after e s us far).fails ≡ false → AllByRecursion Fits (with_proof p (proofs_after e s us rest)) → Tells (course_after e s us far).bytes (with_proof p (proofs_after e s us rest))
+    Speaks p e us = Tells (course_after e s us far).bytes (with_proof p (proofs_after e s us rest))
 
     checks : (problem : Parts) (us : List Verdict) → turn s i ≡ Checks problem → Just (Checks problem) us → Speaks None (Checks problem) us
-    checks problem [] e just fine fits = missing just
-    checks problem (v ∷ us) e just fine fits =
+    checks problem [] e just = missing just
+    checks problem (v ∷ us) e just =
         verdict_said v (far (with_verdict s v) us).bytes (rest (with_verdict s v) us)
-        (ahead (with_verdict s v) us terms (refute.checked s budget v (subst (λ p. IsJust p budget v) (same.checks s i problem e) just.0)) just.2 fine fits)
+        (ahead (with_verdict s v) us terms (refute.checked s budget v (subst (λ p. IsGiven p budget v) (same.checks s i problem e) just.0)) just.2)
 
     quietly : (e : Effect) → turn s i ≡ e → Says e → Just e vs → Speaks None e vs
-    quietly (Answers (said.Text bytes) t) e says just fine fits =
-        subst (λ x. Tells (x ++ (far t vs).bytes) (rest t vs)) (sym says) (ahead t vs _ (refute.goes_on s t i bytes proves e) just fine fits)
-    quietly (Answers (said.Error bytes) t) e says just fine fits = failing fine
-    quietly (Answers (said.Exit bytes) t) e says just fine fits = subst (λ x. Tells x []) (sym says) says_nothing
-    quietly (Checks problem) e says just fine fits = checks problem vs e just fine fits
+    quietly (Answers (said.Text bytes) t) e says just =
+        subst (λ x. Tells (x ++ (far t vs).bytes) (rest t vs)) (sym says) (ahead t vs _ (refute.goes_on s t i bytes proves e) just)
+    quietly (Answers (said.Error bytes) t) e says just = subst (λ x. Tells x []) (sym says.2) (error_said errors says.0 says.1)
+    quietly (Answers (said.Exit bytes) t) e says just = subst (λ x. Tells x []) (sym says) says_nothing
+    quietly (Checks problem) e says just = checks problem vs e just
 
     asks : (p : Option Derivation) → proof s ≡ p → Just (get_proof p s i.line) vs → Speaks p (get_proof p s i.line) vs
-    asks (Some d) is_proof just fine fits = proof_text items (far s vs).bytes d (rest s vs) (proves d is_proof).spelt fits.0 (ahead s vs _ proves just fine fits.1)
-    asks None is_proof just fine fits = failing fine
+    asks (Some d) is_proof just = proof_text items (far s vs).bytes d (rest s vs) (proves d is_proof).0.spelt (proves d is_proof).1 (ahead s vs _ proves just)
+    asks None is_proof just = error_said errors i.line code.E14
 
     by_kind : (c : Result CommandShape Code) → command_of i.shape ≡ c → (c ≡ Ok GetProof) ⊎ (((text : List ℕ) × (c ≡ Ok (Echo text))) ⊎ IsQuiet c) → Just (effect_of c s i.line) vs → Speaks (proof_for c s) (effect_of c s i.line) vs
     by_kind c is (inl e) just = subst (λ x. Speaks (proof_for x s) (effect_of x s i.line) vs) (sym e) (asks (proof s) refl (subst (λ x. Just (effect_of x s i.line) vs) e just))
     by_kind c is (inr (inl (text, e))) just =
         subst (λ x. Speaks (proof_for x s) (effect_of x s i.line) vs) (sym e)
-        (λ fine fits. echo_said text (far s vs).bytes (rest s vs) (echo_token names i text told (is ∙ e)) (ahead s vs _ proves (subst (λ x. Just (effect_of x s i.line) vs) e just) fine fits))
+        (echo_said text (far s vs).bytes (rest s vs) (echo_token names i text told (is ∙ e)) (ahead s vs _ proves (subst (λ x. Just (effect_of x s i.line) vs) e just)))
     by_kind c is (inr (inr q)) just = subst (λ p. Speaks p (effect_of c s i.line) vs) (sym (q.silent s)) (quietly (effect_of c s i.line) (ap (λ x. effect_of x s i.line) is) (q.says s i.line) just)
 
-    one_speaks : AreJust false budget s terms (i ∷ is) vs → (course s (i ∷ is) end vs).fails ≡ false → AllByRecursion Fits (proofs s (i ∷ is) vs) → Tells (course s (i ∷ is) end vs).bytes (proofs s (i ∷ is) vs)
+    one_speaks : AreJust false budget s terms (i ∷ is) vs → Tells (course s (i ∷ is) end vs).bytes (proofs s (i ∷ is) vs)
     unfolding proofs course AreJust
-    one_speaks just fine fits = by_kind (command_of i.shape) refl (kind_of (command_of i.shape)) just fine fits
+    one_speaks just = by_kind (command_of i.shape) refl (kind_of (command_of i.shape)) just
 
-  at_the_end : (l : Last) → (at_last l).fails ≡ false → Tells (at_last l).bytes []
-  at_the_end last.End fine = says_nothing
-  at_the_end (last.Bad f) fine = failing fine
+  at_the_end : (l : Last) → Tells (at_last l).bytes []
+  at_the_end last.End = says_nothing
+  at_the_end (last.Bad f) = fault_said errors f
 
-  none_speaks : (s : State) (vs : List Verdict) → (course s [] end vs).fails ≡ false → Tells (course s [] end vs).bytes (proofs s [] vs)
+  none_speaks : (s : State) (vs : List Verdict) → Tells (course s [] end vs).bytes (proofs s [] vs)
   unfolding proofs course
-  none_speaks s vs fine = at_the_end end fine
+  none_speaks s vs = at_the_end end
 
   pub speaks : (is : List Item) → AllByRecursion IsToldItem is → Ahead is
-  speaks [] told s vs terms proves just fine fits = none_speaks s vs fine
-  speaks (i ∷ is) told s vs terms proves just fine fits = one_speaks s vs terms i is proves told.0 (speaks is told.1) just fine fits
+  speaks [] told s vs terms proves just = none_speaks s vs
+  speaks (i ∷ is) told s vs terms proves just = one_speaks s vs terms i is proves told.0 (speaks is told.1) just

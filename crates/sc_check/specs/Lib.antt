@@ -7,3 +7,4 @@ pub mod Ends
 pub mod Laws
 pub mod Printed
 pub mod Transcripts
+pub mod Claims

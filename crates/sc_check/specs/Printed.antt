@@ -1,6 +1,6 @@
 -- What a check says of the derivations that the same script prints where it is solved.
 use Rattle.std.specs.Prelude.{◌≡◌, ℕ, zero, suc, Bool, true, false, List, [], ◌∷◌, ◌++◌, length, filter, Option, Some, None, slice_get, Result, Ok}
-use Rattle.std.specs.List.{AllByRecursion, AllZip}
+use Rattle.std.specs.List.{AllZip}
 use Rattle.sc_text.specs.declared.code.Code.{Code}
 use Rattle.sc_text.specs.Readings.{Lexeme, Reads, Whole}
 use Rattle.sc_sexpr.specs.Scans.{Piece}
@@ -10,7 +10,6 @@ use Rattle.sc_commands.specs.Forms.{command_of}
 use Rattle.sc_terms.specs.declared.nodes.Node.{Node}
 use Rattle.sc_deriv.specs.declared.derivation.Derivation.{Derivation}
 use Rattle.sc_deriv.specs.declared.derivation.Judgement.TheVariants.{Accepted}
-use Rattle.sc_deriv_text.specs.Spelling.{Fits}
 use Rattle.sc_deriv_text.specs.Text.{item_of, text_of}
 use Rattle.sc_tree.specs.declared.verdict.Verdict.{Verdict}
 use Rattle.sc_session.specs.Said as said
@@ -92,14 +91,14 @@ accepted_lines (suc n) = accepted_lines n ++ finding_line (suc n) (found.Judged 
 abbrev pub all_accepted : ℕ → Tally
 all_accepted n = record { bytes = accepted_lines n; count = n; refused = false }
 
--- What a check finds of copies of these derivations. The numbers in them are of 32 bits, as in all that a program holds.
+-- What a check finds of copies of these derivations.
 pub record AreAccepted (bank : List Node) (asked : List (List ℕ)) (ds : List Derivation) : Type 0 where
   -- the text itself, which a reader of items gives up to its last parenthesis, is a copy
-  pub own_texts : (k : ℕ) (d : Derivation) (i : Item) (line : ℕ) → slice_get ds k ≡ Some d → Fits d → IsTold (record { text = item_of d; line = line }) i → IsCopyOf d i
+  pub own_texts : (k : ℕ) (d : Derivation) (i : Item) (line : ℕ) → slice_get ds k ≡ Some d → IsTold (record { text = item_of d; line = line }) i → IsCopyOf d i
   -- each copy of the k-th is accepted against the assertions for which the k-th get-proof asks
-  pub copies : (k : ℕ) (d : Derivation) (i : Item) → slice_get ds k ≡ Some d → Fits d → IsCopyOf d i → finding bank (slice_get asked k) i.shape ≡ found.Judged Accepted
+  pub copies : (k : ℕ) (d : Derivation) (i : Item) → slice_get ds k ≡ Some d → IsCopyOf d i → finding bank (slice_get asked k) i.shape ≡ found.Judged Accepted
   -- a transcript whose derivations are copies of them, in order, has exactly the lines that say so
-  pub lines : (items : List Item) → AllByRecursion Fits ds → AllZip IsCopyOf ds (derivations_in items) → tally bank asked no_lines items ≡ all_accepted (length ds)
+  pub lines : (items : List Item) → AllZip IsCopyOf ds (derivations_in items) → tally bank asked no_lines items ≡ all_accepted (length ds)
 
 -- What a script prints, solved with just verdicts, is accepted where the script is followed up to its (exit).
 abbrev pub PrintedAreAccepted : Type 0
@@ -118,5 +117,5 @@ abbrev pub ChecksAcceptPrinted : Type 0
 ChecksAcceptPrinted =
     (may_miss : Bool) (budget : ℕ) (script : Script) (verdicts : List Verdict) → AreJust may_miss budget start [] script.items verdicts →
     (v y : View) (t : Tally) (judges : Judges v t y) (behind : List Item) → script.items ≡ judges.follows.items ++ judges.leaves.i ∷ behind →
-    AllByRecursion Fits (proofs_of script verdicts) → AllZip IsCopyOf (proofs_of script verdicts) (derivations_in judges.items) →
+    AllZip IsCopyOf (proofs_of script verdicts) (derivations_in judges.items) →
     t ≡ all_accepted (length (proofs_of script verdicts))

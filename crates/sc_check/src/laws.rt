@@ -1,6 +1,7 @@
 //! What an accepted derivation tells, and which ones are accepted.
 
 ghost use Rattle.sc_check.specs.Laws.{AcceptedRefute};
+ghost use Rattle.sc_check.specs.Claims.{AcceptedRefuteScripts};
 ghost use Rattle.sc_check.specs.Printed.{ProofsArePrinted, PrintedAreAccepted, EachIsAnswered, ChecksAcceptPrinted};
 ghost use Rattle.sc_check.specs.Transcripts.{TranscriptsAreCopies, ChecksAcceptTranscripts};
 
@@ -9,7 +10,11 @@ use sc_deriv::{accepts_closed_trees, closed_trees_refute};
 use sc_deriv_text::{items_have_tokens, texts_have_tokens};
 use sc_elab::elaboration_grows_bank;
 use sc_flatten::{meanings_agree, stocks_are_problems, stocks_stay};
-use sc_session::{proofs_refute, sessions_say_the_same, traces_go_along};
+use sc_print::errors_read_back;
+use sc_session::{
+    proofs_refute, sessions_say_the_same, traces_go_along, traces_keep_formulas,
+    traces_say_the_same,
+};
 use sc_sexpr::{items_have_all_tokens, splitters_give_items};
 use sc_terms::meanings_fit;
 
@@ -23,6 +28,19 @@ pub fn accepted_derivations_refute()
     meanings_fit();
     stocks_are_problems();
     meanings_agree();
+}
+
+/// Where a derivation is accepted for a `(get-proof)` of a script that is followed up to its
+/// `(exit)`, the script's own assertions there contradict one another: in the script's own terms,
+/// under every interpretation of the constants, one of them is false.
+pub fn accepted_derivations_refute_scripts()
+    ensures { AcceptedRefuteScripts }
+{
+    accepted_derivations_refute();
+    traces_say_the_same();
+    traces_keep_formulas();
+    elaboration_grows_bank();
+    stocks_stay();
 }
 
 /// What a script prints where it is solved is accepted where the same script is checked: each text
@@ -47,11 +65,11 @@ pub fn printed_derivations_are_accepted()
     items_have_tokens();
 }
 
-/// The responses to a script, solved with just verdicts and without an error, as a transcript: the
-/// derivations among their items are those with which its `(get-proof)`s are answered, in order. So
-/// the check of an input that has the script up to its `(exit)`, and behind that the responses with
-/// any white space and comments between their tokens, accepts one derivation for each `(get-proof)`,
-/// and refuses none.
+/// The responses to a script, solved with just verdicts, as a transcript: the derivations among their
+/// items are those with which its `(get-proof)`s are answered, in order, also where the last response
+/// is an error. So the check of an input that has the script up to its `(exit)`, and behind that the
+/// responses with any white space and comments between their tokens, accepts each derivation that was
+/// printed, and refuses none. Where solving had no error, there is one for each `(get-proof)`.
 pub fn transcripts_are_accepted()
     ensures copies { TranscriptsAreCopies }
     ensures checks { ChecksAcceptTranscripts }
@@ -64,4 +82,5 @@ pub fn transcripts_are_accepted()
     splitters_give_items();
     items_have_all_tokens();
     codes_are_by_the_head();
+    errors_read_back();
 }

@@ -4,7 +4,8 @@
 //! [`check_input`] does the commands of a script up to `(exit)` without solving, reads what follows
 //! it, and writes a line for each derivation there. `CheckEnds` of `specs/Ends.antt` says how it
 //! ends, and why; `tally` of `specs/Lines.antt` which lines there are. Where a derivation is
-//! accepted, its assertions are unsatisfiable ([`accepted_derivations_refute`]). What the same script
+//! accepted, its assertions are unsatisfiable ([`accepted_derivations_refute`]), and so are those of the
+//! script, in its own terms ([`accepted_derivations_refute_scripts`]). What the same script
 //! prints where it is solved is accepted ([`printed_derivations_are_accepted`]), and so
 //! are its responses as a whole ([`transcripts_are_accepted`]).
 #![tactic(auto)]
@@ -20,7 +21,7 @@ pub use checker::check_input;
 pub use ending::Ending;
 pub use finding::Finding;
 pub use laws::{
-    accepted_derivations_refute, printed_derivations_are_accepted, transcripts_are_accepted,
+    accepted_derivations_refute, accepted_derivations_refute_scripts, printed_derivations_are_accepted, transcripts_are_accepted,
 };
 
 #[cfg(test)]

@@ -24,6 +24,7 @@ use Rattle.sc_elab.specs.Sorts.{sort_of}
 use Rattle.sc_flatten.specs.Stock.{stock}
 use Rattle.sc_tree.specs.declared.verdict.Verdict.{Verdict}
 use Rattle.sc_tree.specs.Verdicts.{IsJust}
+use Rattle.sc_session.specs.Giving.{IsPrintable, IsGiven}
 use Rattle.sc_session.specs.declared.response.Response.{Response}
 use Rattle.sc_session.specs.declared.response.Response.TheVariants as response
 use Rattle.sc_session.specs.Scripts.{Item, IsTold}
@@ -71,12 +72,12 @@ is_asserted s v term line b n bank r new e is h =
 below : (n : ℕ) → n < most_checks → nat_le most_checks n ≡ false
 below n few = grind (arith, few)
 
-pub is_checked : (s v : State) (line b : ℕ) (d : Verdict) (r : Response) (vs : List Verdict) (p : Parts) (ns : List ℕ) → v ≡ s → v.checks < most_checks → ns ≡ assertions_in_force v.names → p ≡ stock v.bank ns → IsJust p b d → r ≡ response.Text (verdict_line d) → vs ≡ v.verdicts ++ d ∷ [] → Does s (check_sat s line) b (Ok r) (state v.bank v.names vs (v.checks + 1) true)
-is_checked s v line b d r vs p ns e few in_force problem just is more =
+pub is_checked : (s v : State) (line b : ℕ) (d : Verdict) (r : Response) (vs : List Verdict) (p : Parts) (ns : List ℕ) → v ≡ s → v.checks < most_checks → ns ≡ assertions_in_force v.names → p ≡ stock v.bank ns → IsJust p b d → IsPrintable d → r ≡ response.Text (verdict_line d) → vs ≡ v.verdicts ++ d ∷ [] → Does s (check_sat s line) b (Ok r) (state v.bank v.names vs (v.checks + 1) true)
+is_checked s v line b d r vs p ns e few in_force problem just printable is more =
     let new : State = state v.bank v.names vs (v.checks + 1) true in
     subst (λ x. Does x (check_sat x line) b (Ok r) new) e
     (subst (λ c. Does v (if c then refuses line (code.E16 most_checks) v else Checks (stock v.bank (assertions_in_force v.names))) b (Ok r) new) (sym (below v.checks few))
-    (d, subst (λ q. IsJust q b d) (problem ∙ ap (stock v.bank) in_force) just, ap (λ q. said_by q new) is, ap (λ xs. state v.bank v.names xs (v.checks + 1) true) more))
+    (d, record { just = subst (λ q. IsJust q b d) (problem ∙ ap (stock v.bank) in_force) just; printable = printable }, ap (λ q. said_by q new) is, ap (λ xs. state v.bank v.names xs (v.checks + 1) true) more))
 
 -- a refusal
 pub refuses_does : (s : State) (line b : ℕ) (c : Code) (r : Result Response Memory) (new : State) → IfOk r (λ x. x ≡ response.Error (spelt_error line c)) → new ≡ s → Does s (refuses line c s) b r new

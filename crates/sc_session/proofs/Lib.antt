@@ -4,6 +4,7 @@ pub mod Trees
 pub mod Whole
 pub mod Saying
 pub mod Keeping
+pub mod Claiming
 pub mod Following
 pub mod Refusing
 pub mod Proving

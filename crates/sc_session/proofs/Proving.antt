@@ -18,6 +18,8 @@ use Rattle.sc_deriv.specs.declared.derivation.Derivation.{Derivation}
 use Rattle.sc_tree.specs.declared.verdict.Verdict.{Verdict}
 use Rattle.sc_tree.specs.declared.verdict.Verdict.TheVariants.{Sat, Unsat, Unknown}
 use Rattle.sc_tree.specs.Verdicts.{Refutes, IsJust}
+use Rattle.sc_deriv_text.specs.Spelling.{Fits}
+use Rattle.sc_session.specs.Giving.{IsGiven}
 use Rattle.sc_session.specs.Said.{Said}
 use Rattle.sc_session.specs.Said as said
 use Rattle.sc_session.specs.Scripts.{Item}
@@ -77,7 +79,7 @@ module _ (s : State) (line : ℕ) (holds : Proves s) where
 -- ---- behind a refusal
 -- the terms that a refused one left change no problem
 longer : StocksStay → (s : State) (bank : List Node) → IsSession s → Begins s.bank bank → Proves s → Proves (with_bank s bank)
-longer stay s bank session begins holds d is = subst (λ p. Refutes p d) (sym (stay s.bank bank begins (assertions_in_force s.names) session.bank session.sorted.assertions)) (holds d is)
+longer stay s bank session begins holds d is = let q = holds d is in (subst (λ p. Refutes p d) (sym (stay s.bank bank begins (assertions_in_force s.names) session.bank session.sorted.assertions)) q.0, q.1)
 
 always : FaultsGrow → StocksStay → (s t : State) (i : Item) (r : Said) → IsSession s → Proves s → turn s i ≡ Answers r t → Proves t
 always grow stay s t i (said.Text bytes) session holds e = subst (Stays s i.line holds) e (item_stays s i.line holds (command_of i.shape))
@@ -104,13 +106,13 @@ one_less xs x = subst (λ n. n - 1 ≡ length xs) (sym (one_longer xs x)) (back 
 given_last : (s : State) (v : Verdict) → current_verdict (with_verdict s v) ≡ Some v
 given_last s v = ap (slice_get (s.verdicts ++ v ∷ [])) (one_less s.verdicts v) ∙ item_last s.verdicts v
 
-just_refutes : (s : State) (budget : ℕ) (d : Derivation) (v : Verdict) → IsJust (stock s.bank (assertions_in_force s.names)) budget v → derivation_of (Some v) ≡ Some d → Refutes (stock s.bank (assertions_in_force s.names)) d
+just_refutes : (s : State) (budget : ℕ) (d : Derivation) (v : Verdict) → IsGiven (stock s.bank (assertions_in_force s.names)) budget v → derivation_of (Some v) ≡ Some d → Refutes (stock s.bank (assertions_in_force s.names)) d × Fits d
 unfolding IsJust
 just_refutes s budget d (Sat m) j e = absurd cc
 just_refutes s budget d (Unknown t) j e = absurd cc
-just_refutes s budget d (Unsat c) j e = let same : c ≡ d = cc in subst (Refutes (stock s.bank (assertions_in_force s.names))) same j
+just_refutes s budget d (Unsat c) j e = let same : c ≡ d = cc in subst (λ x. Refutes (stock s.bank (assertions_in_force s.names)) x × Fits x) same (j.just, j.printable)
 
-refuted : (s : State) (budget : ℕ) (v : Verdict) → IsJust (stock s.bank (assertions_in_force s.names)) budget v → Proves (with_verdict s v)
+refuted : (s : State) (budget : ℕ) (v : Verdict) → IsGiven (stock s.bank (assertions_in_force s.names)) budget v → Proves (with_verdict s v)
 refuted s budget v just d is = just_refutes s budget d v just (ap derivation_of (sym (given_last s v)) ∙ is)
 
 pub proofs : FaultsGrow → StocksStay → ProofsRefute

@@ -28,7 +28,7 @@ use Rattle.sc_tree.specs.Verdicts.{IsJust}
 use Rattle.sc_deriv.specs.declared.derivation.Derivation.{Derivation}
 use Rattle.sc_session.specs.Said.{Said}
 use Rattle.sc_session.specs.Said as response
-use Rattle.sc_session.specs.States.{State, with_bank, with_names, moved_on, proof, IsSession}
+use Rattle.sc_session.specs.States.{State, with_bank, with_names, moved_on, proof, IsSession, IsGrounded}
 use Rattle.sc_session.specs.Effects.{Effect, Answers, Checks, quiet, refuses, declares, is_taken, declare_sort, declare_of, is_empty_list, assert_of, most_checks, get_proof, effect, effect_of}
 use Rattle.sc_session.specs.Meaning.{Assertion, asserts, asserts_of, is_true, Says, IsRight}
 use Rattle.sc_session.specs.Laws.{SayTheSame}
@@ -37,6 +37,10 @@ use Rattle.sc_session.proofs.Standing.{sort_asserts_none, constant_asserts_none,
 -- the answer is none that lets the script go on
 answered : {r q : Said} {s t : State} → Answers r s ≡ Answers q t → (r ≡ q) × (s ≡ t)
 answered e = (cc, cc)
+
+-- a session's assertions are formulas of its bank
+grounded : (s : State) → IsSession s → IsGrounded s
+grounded s session = record { bank = session.bank; levels = session.names.levels; assertions = session.sorted.assertions }
 
 -- ---- what lets the script go on is quiet, and the rest is refused
 module _ (s t : State) (line : ℕ) (bytes : List ℕ) where
@@ -109,31 +113,30 @@ is_stock s line problem c e = subst (Leaves s line) e (item_leaves s line c)
 -- ---- meanings
 module _
     (truths : (t : Shape) (e : Elaborating) (n : ℕ) (bank : List Node) → IsBank e.bank → core t e ≡ Done n bank → (i : Interpretation) → IsInterpretation i → (bank_meaning bank i).truth n ≡ truth (term_value e.names i t))
-    (stays : (t : Shape) (e : Elaborating) (n : ℕ) (bank : List Node) → IsBank e.bank → core t e ≡ Done n bank → (i : Interpretation) → IsInterpretation i → (m : ℕ) → IsFormulaOf e.bank m → (bank_meaning bank i).truth m ≡ (bank_meaning e.bank i).truth m)
-    (agree : MeaningsAgree) where
+    (stays : (t : Shape) (e : Elaborating) (n : ℕ) (bank : List Node) → IsBank e.bank → core t e ≡ Done n bank → (i : Interpretation) → IsInterpretation i → (m : ℕ) → IsFormulaOf e.bank m → (bank_meaning bank i).truth m ≡ (bank_meaning e.bank i).truth m) where
   -- formulas that keep their truth
   still_true : (p q : ℕ → Bool) (Is : ℕ → Type 0) → ((m : ℕ) → Is m → p m ≡ q m) → (ns : List ℕ) → AllByRecursion Is ns → map p ns ≡ map q ns
   still_true p q Is same [] h = refl
   still_true p q Is same (n ∷ ns) h = ap (λ x. x ∷ map p ns) (same n h.0) ∙ ap (λ xs. q n ∷ xs) (still_true p q Is same ns h.1)
 
   -- nothing more is asserted
-  same_says : (s t : State) (terms : List Assertion) → t.bank ≡ s.bank → assertions_in_force t.names ≡ assertions_in_force s.names → Says s terms → Says t (terms ++ [])
+  pub same_says : (s t : State) (terms : List Assertion) → t.bank ≡ s.bank → assertions_in_force t.names ≡ assertions_in_force s.names → Says s terms → Says t (terms ++ [])
   same_says s t terms banks forces says i p =
       ap (λ bank. map (bank_meaning bank i).truth (assertions_in_force t.names)) banks ∙ ap (map (bank_meaning s.bank i).truth) forces ∙ says i p ∙ ap (map (is_true i)) (sym (append-nil terms))
 
   -- one more assertion
-  more_says : (s : State) (terms : List Assertion) (term : Shape) (n : ℕ) (bank : List Node) → IsSession s → Says s terms → core term (record { bank = s.bank; names = s.names }) ≡ Done n bank → Says (moved_on (with_names (with_bank s bank) (with_assertion s.names n))) (terms ++ record { term = term; names = s.names } ∷ [])
+  pub more_says : (s : State) (terms : List Assertion) (term : Shape) (n : ℕ) (bank : List Node) → IsGrounded s → Says s terms → core term (record { bank = s.bank; names = s.names }) ≡ Done n bank → Says (moved_on (with_names (with_bank s bank) (with_assertion s.names n))) (terms ++ record { term = term; names = s.names } ∷ [])
   more_says s terms term n bank session says is i p =
       let new : (bank_meaning bank i).truth n ≡ truth (term_value s.names i term) = truths term (record { bank = s.bank; names = s.names }) n bank session.bank is i p in
-      let kept_all : map (bank_meaning bank i).truth (assertions_in_force s.names) ≡ map (bank_meaning s.bank i).truth (assertions_in_force s.names) = still_true (bank_meaning bank i).truth (bank_meaning s.bank i).truth (IsFormulaOf s.bank) (stays term (record { bank = s.bank; names = s.names }) n bank session.bank is i p) (assertions_in_force s.names) session.sorted.assertions in
+      let kept_all : map (bank_meaning bank i).truth (assertions_in_force s.names) ≡ map (bank_meaning s.bank i).truth (assertions_in_force s.names) = still_true (bank_meaning bank i).truth (bank_meaning s.bank i).truth (IsFormulaOf s.bank) (stays term (record { bank = s.bank; names = s.names }) n bank session.bank is i p) (assertions_in_force s.names) session.assertions in
       let old : map (bank_meaning bank i).truth (assertions_in_force s.names) ≡ map (is_true i) terms = kept_all ∙ says i p in
-      ap (map (bank_meaning bank i).truth) (one_more_assertion s.names n session.names.levels)
+      ap (map (bank_meaning bank i).truth) (one_more_assertion s.names n session.levels)
       ∙ map-append (bank_meaning bank i).truth (assertions_in_force s.names) (n ∷ [])
       ∙ ap (λ xs. xs ++ (bank_meaning bank i).truth n ∷ []) old
       ∙ ap (λ x. map (is_true i) terms ++ x ∷ []) new
       ∙ sym (map-append (is_true i) terms (record { term = term; names = s.names } ∷ []))
 
-  module _ (s t : State) (terms : List Assertion) (line : ℕ) (bytes : List ℕ) (session : IsSession s) (says : Says s terms) where
+  module _ (s t : State) (terms : List Assertion) (line : ℕ) (bytes : List ℕ) (session : IsGrounded s) (says : Says s terms) where
     unchanged : t ≡ s → Says t (terms ++ [])
     unchanged e = same_says s t terms (ap (λ (x : State). x.bank) e) (ap (λ (x : State). assertions_in_force x.names) e) says
 
@@ -156,7 +159,7 @@ module _
     proved (Some d) e = unchanged (sym (answered e).1)
     proved None e = refused s t line bytes code.E14 s e
 
-  module _ (s t : State) (terms : List Assertion) (line : ℕ) (bytes : List ℕ) (session : IsSession s) (says : Says s terms) where
+  module _ (s t : State) (terms : List Assertion) (line : ℕ) (bytes : List ℕ) (session : IsGrounded s) (says : Says s terms) where
     commanded : (c : CommandShape) → effect s c line ≡ Answers (response.Text bytes) t → Says t (terms ++ asserts s.names c)
     commanded SetLogic e = unchanged s t terms line bytes session says (quiet_is s t line bytes s e)
     commanded SetInfo e = unchanged s t terms line bytes session says (quiet_is s t line bytes s e)
@@ -194,20 +197,20 @@ module _
   all_back p q (n ∷ ns) [] e h = absurd cc
   all_back p q (n ∷ ns) (a ∷ more) e h = (let same : p n ≡ q a = cc in same ∙ h.0, all_back p q ns more (let rest : map p ns ≡ map q more = cc in rest) h.1)
 
-  right : (s : State) (terms : List Assertion) (budget : ℕ) (v : Verdict) → IsSession s → Says s terms → IsJust (stock s.bank (assertions_in_force s.names)) budget v → IsRight terms v
+  right : MeaningsAgree → (s : State) (terms : List Assertion) (budget : ℕ) (v : Verdict) → IsSession s → Says s terms → IsJust (stock s.bank (assertions_in_force s.names)) budget v → IsRight terms v
   unfolding IsJust
-  right s terms budget (Sat m) session says just =
+  right agree s terms budget (Sat m) session says just =
       (just.proper, all_over (meaning (stock s.bank (assertions_in_force s.names)) _).truth (is_true _) _ terms (agree s.bank (assertions_in_force s.names) session.bank session.sorted.assertions _ just.proper ∙ says _ just.proper) just.holds)
-  right s terms budget (Unsat d) session says just =
+  right agree s terms budget (Unsat d) session says just =
       λ i p h. just.none i p (all_back (meaning (stock s.bank (assertions_in_force s.names)) i).truth (is_true i) _ terms (agree s.bank (assertions_in_force s.names) session.bank session.sorted.assertions i p ∙ says i p) h)
-  right s terms budget (Unknown t) session says just = tt
+  right agree s terms budget (Unknown t) session says just = tt
 
-  pub say_the_same : SayTheSame
-  say_the_same = record {
+  pub say_the_same : MeaningsAgree → SayTheSame
+  say_the_same agree = record {
     starts = λ i p. refl;
-    goes_on = λ s t terms i bytes session says e. taken s t terms i.line bytes session says (command_of i.shape) e;
+    goes_on = λ s t terms i bytes session says e. taken s t terms i.line bytes (grounded s session) says (command_of i.shape) e;
     keeps = λ s t i r e. kept s t i.line r (command_of i.shape) e;
     checks = λ s i problem e. is_stock s i.line problem (command_of i.shape) e;
     checked = λ s terms v says. says;
-    right = right;
+    right = right agree;
   }

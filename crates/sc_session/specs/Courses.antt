@@ -7,11 +7,11 @@ use Rattle.sc_sexpr.specs.declared.item.Last.{Last}
 use Rattle.sc_sexpr.specs.declared.item.Last.TheVariants as last
 use Rattle.sc_print.specs.Spelling.{spelt_error}
 use Rattle.sc_tree.specs.declared.verdict.Verdict.{Verdict}
-use Rattle.sc_tree.specs.Verdicts.{IsJust}
 use Rattle.sc_session.specs.Said as said
 use Rattle.sc_session.specs.Scripts.{Item, Script}
 use Rattle.sc_session.specs.States.{State, start, with_verdict}
 use Rattle.sc_session.specs.Effects.{Effect, Answers, Checks, turn, verdict_line}
+use Rattle.sc_session.specs.Giving.{IsGiven}
 use Rattle.sc_session.specs.Meaning.{Assertion, asserted_by, IsRight}
 
 -- the bytes of the responses, and whether the last one is an error
@@ -57,9 +57,9 @@ just_after may_miss budget (Answers (said.Text bytes) t) s terms i vs rest = res
 just_after may_miss budget (Answers (said.Error bytes) t) s terms i vs rest = vs ≡ []
 just_after may_miss budget (Answers (said.Exit bytes) t) s terms i vs rest = vs ≡ []
 just_after may_miss budget (Checks problem) s terms i [] rest = may_miss ≡ true
-just_after may_miss budget (Checks problem) s terms i (v ∷ vs) rest = IsJust problem budget v × IsRight terms v × rest (with_verdict s v) terms vs
+just_after may_miss budget (Checks problem) s terms i (v ∷ vs) rest = IsGiven problem budget v × IsRight terms v × rest (with_verdict s v) terms vs
 
--- The verdicts are those of the check-sats in order, up to the script's end or the first error: each is just for the problem of the assertions in force, and right for their terms. Where they may be fewer, those of the last check-sats are missing.
+-- The verdicts are those of the check-sats in order, up to the script's end or the first error: each is just for the problem of the assertions in force, and right for their terms; an unsat's derivation can be printed and read back. Where they may be fewer, those of the last check-sats are missing.
 unfoldable pub AreJust : Bool → ℕ → State → List Assertion → List Item → List Verdict → Type 0
 AreJust may_miss budget s terms [] vs = vs ≡ []
 AreJust may_miss budget s terms (i ∷ is) vs = just_after may_miss budget (turn s i) s terms i vs (λ t more us. AreJust may_miss budget t more is us)

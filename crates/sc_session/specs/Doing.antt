@@ -7,13 +7,13 @@ use Rattle.sc_terms.specs.declared.memory.Memory.{Memory}
 use Rattle.sc_deriv.specs.declared.derivation.Derivation.{Derivation}
 use Rattle.sc_deriv_text.specs.Text.{text_of}
 use Rattle.sc_tree.specs.declared.verdict.Verdict.{Verdict}
-use Rattle.sc_tree.specs.Verdicts.{IsJust}
 use Rattle.sc_session.specs.declared.response.Response.{Response}
 use Rattle.sc_session.specs.declared.response.Response.TheVariants as response
 use Rattle.sc_session.specs.Said.{Said}
 use Rattle.sc_session.specs.Said as said
 use Rattle.sc_session.specs.States.{State, with_verdict, proof}
 use Rattle.sc_session.specs.Effects.{Effect, Answers, Checks, verdict_line}
+use Rattle.sc_session.specs.Giving.{IsGiven}
 
 -- what is answered where a declaration was tried
 abbrev pub IsTold : Result ℕ StackError → ℕ → Response → Type 0
@@ -40,7 +40,7 @@ said_by (response.Exit bytes) s = said.Exit bytes
 -- The effect is had, and this is said: a check-sat gets a just verdict, which is told.
 abbrev pub HasEffect : State → Effect → ℕ → Said → State → Type 0
 HasEffect old (Answers r t) budget given new = (given ≡ r) × (new ≡ t)
-HasEffect old (Checks problem) budget given new = (v : Verdict) × IsJust problem budget v × (given ≡ said.Text (verdict_line v)) × (new ≡ with_verdict old v)
+HasEffect old (Checks problem) budget given new = (v : Verdict) × IsGiven problem budget v × (given ≡ said.Text (verdict_line v)) × (new ≡ with_verdict old v)
 
 -- What a call does. After want of memory the verdicts are as before.
 abbrev pub Does : State → Effect → ℕ → Result Response Memory → State → Type 0

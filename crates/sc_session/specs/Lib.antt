@@ -2,6 +2,7 @@ pub mod Scripts
 pub mod States
 pub mod Said
 pub mod Effects
+pub mod Giving
 pub mod Doing
 pub mod Tracing
 pub mod Proving

@@ -4,9 +4,10 @@ use Rattle.sc_terms.specs.declared.problem.Parts.{Parts}
 use Rattle.sc_flatten.specs.Stock.{stock}
 use Rattle.sc_stack.specs.Names.{assertions_in_force}
 use Rattle.sc_deriv.specs.declared.derivation.Derivation.{Derivation}
+use Rattle.sc_deriv_text.specs.Spelling.{Fits}
 use Rattle.sc_deriv_text.specs.Text.{text_of}
 use Rattle.sc_tree.specs.declared.verdict.Verdict.{Verdict}
-use Rattle.sc_tree.specs.Verdicts.{Refutes, IsJust}
+use Rattle.sc_tree.specs.Verdicts.{Refutes}
 use Rattle.sc_session.specs.Said.{Said}
 use Rattle.sc_session.specs.Said as said
 use Rattle.sc_session.specs.declared.tracing.Traced.{Traced}
@@ -14,11 +15,12 @@ use Rattle.sc_session.specs.declared.tracing.Traced.TheVariants as traced
 use Rattle.sc_session.specs.Scripts.{Item}
 use Rattle.sc_session.specs.States.{State, state, start, with_verdict, proof, IsSession}
 use Rattle.sc_session.specs.Effects.{Answers, Checks, turn}
+use Rattle.sc_session.specs.Giving.{IsGiven}
 use Rattle.sc_session.specs.Tracing.{step}
 
--- The derivation that is current refutes the problem of the assertions in force.
+-- The derivation that is current refutes the problem of the assertions in force, and can be printed and read back.
 abbrev pub Proves : State → Type 0
-Proves s = (d : Derivation) → proof s ≡ Some d → Refutes (stock s.bank (assertions_in_force s.names)) d
+Proves s = (d : Derivation) → proof s ≡ Some d → Refutes (stock s.bank (assertions_in_force s.names)) d × Fits d
 
 -- This holds of a session whose verdicts are just.
 pub record ProofsRefute : Type 0 where
@@ -27,7 +29,7 @@ pub record ProofsRefute : Type 0 where
   pub goes_on : (s t : State) (i : Item) (bytes : List ℕ) → Proves s → turn s i ≡ Answers (said.Text bytes) t → Proves t
   -- and whatever is answered: a refusal leaves the derivation current
   pub answered : (s t : State) (i : Item) (r : Said) → IsSession s → Proves s → turn s i ≡ Answers r t → Proves t
-  pub checked : (s : State) (budget : ℕ) (v : Verdict) → IsJust (stock s.bank (assertions_in_force s.names)) budget v → Proves (with_verdict s v)
+  pub checked : (s : State) (budget : ℕ) (v : Verdict) → IsGiven (stock s.bank (assertions_in_force s.names)) budget v → Proves (with_verdict s v)
 
 -- a session that differs in its verdicts
 abbrev pub beside : State → List Verdict → State

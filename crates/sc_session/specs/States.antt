@@ -1,5 +1,5 @@
 -- A session at a moment.
-use Rattle.std.specs.Prelude.{ℕ, ◌+◌, ◌-◌, Bool, true, false, if◌then◌else◌, List, [], ◌∷◌, ◌++◌, length, slice_get, Option, Some, None}
+use Rattle.std.specs.Prelude.{ℕ, ◌+◌, ◌-◌, ◌≤◌, Bool, true, false, if◌then◌else◌, List, [], ◌∷◌, ◌++◌, length, slice_get, Option, Some, None}
 use Rattle.std.specs.List.{AllByRecursion}
 use Rattle.sc_terms.specs.declared.nodes.Node.{Node}
 use Rattle.sc_terms.specs.Bank.{IsBank, IsFormulaOf}
@@ -67,3 +67,9 @@ pub record IsSession (s : State) : Type 0 where
   pub bank : IsBank s.bank
   pub names : IsNames s.names
   pub sorted : IsSorted s.bank s.names
+
+-- what the meaning of a session's assertions hangs on: they are formulas of a bank, and there is a level for the next one
+pub record IsGrounded (s : State) : Type 0 where
+  pub bank : IsBank s.bank
+  pub levels : 1 ≤ length s.names.levels
+  pub assertions : AllByRecursion (IsFormulaOf s.bank) (assertions_in_force s.names)

@@ -1,5 +1,5 @@
 -- What a command does that is followed without solving.
-use Rattle.std.specs.Prelude.{◌≡◌, ⊤, ℕ, Bool, true, false, if◌then◌else◌, List, Result, Ok, Err, IfOk}
+use Rattle.std.specs.Prelude.{◌≡◌, ⊤, ℕ, Bool, true, false, if◌then◌else◌, List, [], ◌++◌, Result, Ok, Err, IfOk}
 use Rattle.std.specs.List.{AllByRecursion}
 use Rattle.sc_text.specs.declared.code.Code.{Code}
 use Rattle.sc_text.specs.declared.code.Code.TheVariants as code
@@ -16,8 +16,9 @@ use Rattle.sc_session.specs.declared.tracing.Traced.TheVariants as traced
 use Rattle.sc_session.specs.Said as said
 use Rattle.sc_sexpr.specs.Scans.{Piece}
 use Rattle.sc_session.specs.Scripts.{Item, IsTold}
-use Rattle.sc_session.specs.States.{State, with_check, IsSession}
+use Rattle.sc_session.specs.States.{State, start, with_check, IsSession, IsGrounded}
 use Rattle.sc_session.specs.Effects.{Effect, Answers, Checks, effect}
+use Rattle.sc_session.specs.Meaning.{Assertion, asserted_by, Says}
 
 -- what is known of a command, and the session behind it
 pub record Trace : Type 0 where
@@ -86,12 +87,24 @@ GoesOn (traced.Proof assertions) = ⊤
 GoesOn (traced.Error bytes) = ⊥
 GoesOn traced.Exit = ⊤
 
+-- the script goes on behind it
+abbrev pub IsInside : Traced → Type 0
+IsInside traced.Nothing = ⊤
+IsInside (traced.Proof assertions) = ⊤
+IsInside (traced.Error bytes) = ⊥
+IsInside traced.Exit = ⊥
+
 -- What holds of following.
 pub record TracesKeep : Type 0 where
   -- What was a formula is one behind an item that is no error.
   pub keeps : (s : State) (i : Item) (ns : List ℕ) → IsSession s → GoesOn (step s i).given → AllByRecursion (IsFormulaOf s.bank) ns → AllByRecursion (IsFormulaOf (step s i).session.bank) ns
   -- What a get-proof asks for are the assertions in force.
   pub asks : (s : State) (i : Item) (ns : List ℕ) → (step s i).given ≡ traced.Proof ns → ns ≡ assertions_in_force s.names
+
+-- What the formulas of a session say that is followed: behind an item, unless it ends the script, what the script's own terms say.
+pub record TracesSay : Type 0 where
+  pub starts : IsGrounded start × Says start []
+  pub goes_on : (s : State) (terms : List Assertion) (i : Item) → IsGrounded s → Says s terms → IsInside (step s i).given → IsGrounded (step s i).session × Says (step s i).session (terms ++ asserted_by s i)
 
 -- The call gives this, and leaves this session; want of memory is free.
 abbrev pub IsTraced : Trace → Result Traced Memory → State → Type 0

@@ -2,7 +2,7 @@
 
 ghost use Rattle.sc_session.specs.Laws.{AreRead, RefusalsLeave, SayTheSame};
 ghost use Rattle.sc_session.specs.Proving.{ProofsRefute, TracesGoAlong};
-ghost use Rattle.sc_session.specs.Tracing.{TracesKeep};
+ghost use Rattle.sc_session.specs.Tracing.{TracesKeep, TracesSay};
 
 use sc_elab::{elaboration_grows_bank, elaboration_keeps_meaning};
 use sc_flatten::{meanings_agree, stocks_stay};
@@ -32,6 +32,15 @@ pub fn sessions_say_the_same()
 pub fn traces_keep_formulas()
     ensures { TracesKeep }
 {
+    elaboration_grows_bank();
+}
+
+/// Following a script without solving keeps what its formulas say: those that it has in force are
+/// true exactly where the script's own assertions so far are, in the script's own terms.
+pub fn traces_say_the_same()
+    ensures { TracesSay }
+{
+    elaboration_keeps_meaning();
     elaboration_grows_bank();
 }
 

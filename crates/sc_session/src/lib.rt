@@ -15,7 +15,8 @@
 //!
 //! [`Session::trace_command`] and [`Session::trace_item`] follow a script without solving, as a
 //! checker of its proofs does. `step` of `specs/Tracing.antt` says what each item does there, and
-//! [`traces_go_along`] that this goes along with solving.
+//! [`traces_go_along`] that this goes along with solving. There too the formulas say what the script's
+//! own terms say ([`traces_say_the_same`]).
 #![tactic(auto)]
 
 mod laws;
@@ -26,7 +27,7 @@ mod verdicts;
 
 pub use laws::{
     proofs_refute, refusals_leave_sessions, scripts_are_read, sessions_say_the_same,
-    traces_go_along, traces_keep_formulas,
+    traces_go_along, traces_keep_formulas, traces_say_the_same,
 };
 pub use response::{Response, fault_line, verdict_line};
 pub use session::Session;

@@ -13,6 +13,7 @@ ghost use Rattle.sc_session.specs.States.{State, start, with_bank, proof, IsSess
 ghost use Rattle.sc_session.specs.Tracing.{trace, followed, followed_proof, is_quick, IsTraced, IsStepped};
 ghost use Rattle.sc_session.specs.Effects as effects;
 ghost use Rattle.sc_session.specs.Effects.{effect, turn, is_taken, assert_of};
+ghost use Rattle.sc_session.specs.Giving.{IsPrintable};
 ghost use Rattle.sc_session.specs.Doing.{Does};
 ghost use Rattle.sc_session.specs.Doing as doing;
 
@@ -21,6 +22,7 @@ use crate::tracing::{Traced, known_of, traced_refusal};
 use crate::verdicts::Verdicts;
 use sc_base::Sequence;
 use sc_commands::{Command, read_command};
+use sc_deriv_text::length;
 use sc_elab::{ElabError, elaborate, elaboration_keeps_posed, read_sort, read_sorts_are_declared};
 use sc_flatten::{prepare, stocks_are_posed};
 use sc_sexpr::{Items, Tree, read_tree};
@@ -98,6 +100,16 @@ fn tell(bank: &Bank, stack: &Stack)
 {
     let _count = bank.len();
     let _constants = stack.constants();
+}
+
+/// Tells that the numbers of an unsat's derivation are of 32 bits, as they are in every value: its
+/// lines are counted, which takes less than writing them.
+fn tell_printable(verdict: &Verdict)
+    ensures { IsPrintable verdict.now }
+{
+    if let Verdict::Unsat(derivation) = verdict {
+        let _bytes = length(derivation);
+    }
 }
 
 impl Session {
@@ -238,6 +250,7 @@ impl Session {
         tell(&self.bank, &self.stack);
         let problem = prepare(self.alloc, &self.bank, self.stack.in_force())?;
         let verdict = decider.decide(self.alloc, &problem, &self.bank, budget)?;
+        tell_printable(&verdict);
         let response = told(self.alloc, &verdict)?;
         self.verdicts.push(verdict)?;
         self.checks += 1;

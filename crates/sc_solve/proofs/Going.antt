@@ -15,6 +15,7 @@ use Rattle.sc_sexpr.specs.Trees.{IsItem}
 use Rattle.sc_terms.specs.declared.problem.Parts.{Parts}
 use Rattle.sc_tree.specs.declared.verdict.Verdict.{Verdict}
 use Rattle.sc_tree.specs.Verdicts.{IsJust}
+use Rattle.sc_session.specs.Giving.{IsGiven}
 use Rattle.sc_session.specs.Said.{Said}
 use Rattle.sc_session.specs.Said as response
 use Rattle.sc_session.specs.Scripts.{Item, Script, IsTold, AreTold, IsScriptOf}
@@ -120,8 +121,8 @@ module _ (law : SayTheSame) (budget : ℕ) (whole : Script) (before now : SinkMo
     one_more : (v : Verdict) (vs : List Verdict) → (s.verdicts ++ v ∷ []) ++ vs ≡ s.verdicts ++ v ∷ vs
     one_more v vs = append_assoc s.verdicts (v ∷ []) vs
 
-    checked_right : (problem : Parts) (v : Verdict) → turn s i ≡ Checks problem → IsJust problem budget v → IsRight terms v
-    checked_right problem v at j = law.right s terms budget v session says (subst (λ p. IsJust p budget v) (law.checks s i problem at) j)
+    checked_right : (problem : Parts) (v : Verdict) → turn s i ≡ Checks problem → IsGiven problem budget v → IsRight terms v
+    checked_right problem v at j = law.right s terms budget v session says (subst (λ p. IsJust p budget v) (law.checks s i problem at) j.just)
 
     -- the script goes on
     module _ (after : SinkMoment) (t : State) (r : Reading) (bytes : List ℕ) (told : AreTold r.tops is) (ends : whole.last ≡ r.last) (out : IsWritten before after (written ++ bytes)) where

@@ -8,7 +8,7 @@ use Rattle.sc_session.proofs.Doing.{is_checked}
 use Rattle.sc_session.proofs.session.Session.check_sat.Goals as goal
 
 pub returns : goal.returns
-returns g c = is_checked c.args.self.now (state c.self.inside.bank c.self.inside.stack c.self.inside.verdicts c.self.inside.checks c.self.inside.current) c.args.line c.args.budget c.in_ok-verdict.verdict c.in_ok-response.response c.push.new.self c.in_ok-problem.problem c.in_force.result.now c.self.view_is c.if-self-ge-MOST_CHECKS.false c.in_force.ensures c.in_ok-problem.ensures c.in_ok-verdict.ensures c.in_ok-response.ensures c.in_ok-push.ensures.ok
+returns g c = is_checked c.args.self.now (state c.self.inside.bank c.self.inside.stack c.self.inside.verdicts c.self.inside.checks c.self.inside.current) c.args.line c.args.budget c.in_ok-verdict.verdict c.in_ok-response.response c.push.new.self c.in_ok-problem.problem c.in_force.result.now c.self.view_is c.if-self-ge-MOST_CHECKS.false c.in_force.ensures c.in_ok-problem.ensures c.in_ok-verdict.ensures c.tell_printable.ensures c.in_ok-response.ensures c.in_ok-push.ensures.ok
 
 pub decide-requires-clause-posed : goal.decide-requires-clause-posed
 decide-requires-clause-posed g c =
