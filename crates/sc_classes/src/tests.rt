@@ -10,7 +10,6 @@ use sc_terms::{
     literals_make_problem,
 };
 use std::alloc::Global;
-use std::process::Abort;
 use std::test::Fail;
 
 /// The lists of a problem of five elements, in which nothing is asserted.
@@ -42,28 +41,6 @@ fn problem_of_five(alloc: Global) -> Result<Problem, Memory> {
     Ok(Problem::from_parts(parts))
 }
 
-const PAIRS: &[(u32, u32)] = &[(4, 5), (2, 4)];
-
-/// An element, and the least of its class.
-const LABELS: &[(u32, u32)] = &[(1, 1), (2, 2), (3, 3), (4, 2), (5, 2)];
-
-fn merge_all(rt: &impl Abort, classes: &mut Classes) {
-    for (e, f) in PAIRS {
-        let within = *e <= classes.count() && *f <= classes.count();
-        assert!(rt; within);
-        if within {
-            assert!(rt; classes.merge(*e, *f, 0).is_ok());
-        }
-    }
-}
-
-fn check_labels(rt: &impl Abort, classes: &Classes) {
-    for (e, label) in LABELS {
-        assert!(rt; *e <= classes.count());
-        assert!(rt; classes.label(*e) == *label);
-    }
-}
-
 /// Whether the explanation has so many steps, of which this is the last.
 fn explained(
     alloc: Global,
@@ -85,24 +62,21 @@ fn explained(
     }
 }
 
-fn check_explanations(rt: &impl Abort, alloc: Global, classes: &Classes) {
-    let cases = [
-        (1, 1, 1, PlainStep::EqRefl(1)),
-        (5, 4, 2, PlainStep::EqStep(5, 5, 4)),
-        (5, 2, 1, PlainStep::EqStep(5, 4, 2)),
-        (2, 5, 1, PlainStep::EqStep(2, 4, 5)),
-    ];
-    for (e, f, count, last) in cases.as_slice() {
-        assert!(rt; explained(alloc, classes, *e, *f, *count, last));
+/// Whether elements 2 and 5 come to one class by way of 4, whose explanations go along the chain.
+fn joins(alloc: Global, problem: &Problem) -> Result<bool, Memory> {
+    let mut classes = Classes::new(alloc, problem)?;
+    if classes.count() < 5 {
+        return Ok(false);
     }
+    classes.merge(4, 5, 0)?;
+    classes.merge(2, 4, 1)?;
+    let whole = explained(alloc, &classes, 5, 2, 1, &PlainStep::EqStep(5, 4, 2));
+    Ok(whole && explained(alloc, &classes, 1, 1, 1, &PlainStep::EqRefl(1)))
 }
 
 #[test]
 fn classes_of_five(rt: HostRuntime) -> Result<(), Fail> {
     let problem = problem_of_five(rt.alloc())?;
-    let mut classes = Classes::new(rt.alloc(), &problem)?;
-    merge_all(&rt, &mut classes);
-    check_labels(&rt, &classes);
-    check_explanations(&rt, rt.alloc(), &classes);
+    assert!(rt; joins(rt.alloc(), &problem)?);
     Ok(())
 }
