@@ -1,5 +1,5 @@
 -- The formulas of a session that is followed say what the script's own terms say.
-use Rattle.std.proofs.Common.{◌≡◌, if◌then◌else◌, nat_le, ℕ, ◌≤◌, Bool, true, false, List, [], ◌∷◌, ◌++◌, length, Option, Some, None, Result, Ok, Err, refl, sym, ap, ◌∙◌, append-nil, subst, arith}
+use Rattle.std.proofs.Common.{◌≡◌, if◌then◌else◌, nat_le, ℕ, ◌≤◌, Bool, true, false, List, [], ◌∷◌, ◌++◌, length, Option, Some, None, Result, Ok, Err, refl, sym, subst, arith}
 use Rattle.std.specs.Prelude.{codes}
 use Rattle.std.specs.Str.{bytes_eq}
 use Rattle.std.specs.List.{AllByRecursion, IsDistinct}
@@ -13,14 +13,14 @@ use Rattle.sc_terms.specs.declared.nodes.Sort.{Sort}
 use Rattle.sc_terms.specs.Bank.{IsBank, IsFormulaOf, Begins}
 use Rattle.sc_terms.specs.BankValues.{bank_meaning}
 use Rattle.sc_terms.specs.Meaning.{Interpretation, IsInterpretation}
-use Rattle.sc_stack.specs.Names.{Names, Level, on_last, fault_of, with_sort, with_constant, with_assertion, assertions_in_force}
+use Rattle.sc_stack.specs.Names.{Names, Level, on_last, fault_of, with_sort, with_constant, assertions_in_force}
 use Rattle.sc_elab.specs.States.{State as Elaborating, Outcome, Done, Fault}
 use Rattle.sc_elab.specs.Elab.{core}
 use Rattle.sc_elab.specs.Sorts.{sort_of}
 use Rattle.sc_elab.specs.Value.{term_value, truth}
-use Rattle.sc_session.specs.States.{State, with_bank, with_names, moved_on, IsGrounded}
+use Rattle.sc_session.specs.States.{State, IsGrounded}
 use Rattle.sc_session.specs.Effects.{Effect, declares, is_taken, declare_of, is_empty_list, assert_of, most_checks}
-use Rattle.sc_session.specs.Meaning.{Assertion, asserts, asserts_of, is_true, Says}
+use Rattle.sc_session.specs.Meaning.{Assertion, asserts, asserts_of, Says}
 use Rattle.sc_session.specs.Tracing.{Trace, followed, trace, trace_of, IsInside, TracesSay}
 use Rattle.sc_session.proofs.Standing.{still_formulas, sort_asserts_none, constant_asserts_none, one_more_assertion}
 use Rattle.sc_session.proofs.Saying.{same_says, more_says}

@@ -24,7 +24,7 @@ use Rattle.sc_elab.specs.Sorts.{sort_of}
 use Rattle.sc_flatten.specs.Stock.{stock}
 use Rattle.sc_tree.specs.declared.verdict.Verdict.{Verdict}
 use Rattle.sc_tree.specs.Verdicts.{IsJust}
-use Rattle.sc_session.specs.Giving.{IsPrintable, IsGiven}
+use Rattle.sc_session.specs.Giving.{IsPrintable}
 use Rattle.sc_session.specs.declared.response.Response.{Response}
 use Rattle.sc_session.specs.declared.response.Response.TheVariants as response
 use Rattle.sc_session.specs.Scripts.{Item, IsTold}
