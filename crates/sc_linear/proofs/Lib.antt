@@ -1,0 +1,5 @@
+mod Forms
+mod Entries
+mod Adding
+mod Valuing
+mod Scaling
