@@ -119,14 +119,25 @@ measure() {
   describe $is_late
 }
 
+# ANSWERS: the answers, or how many there are of each kind where they are many, or 'done' where there is none
+in_short() {
+  local -a all
+  read -ra all <<< "$1"
+  if (( ${#all[@]} <= 20 )); then
+    printf '%s' "${1:-done}"
+  else
+    printf '%s\n' "${all[@]}" | sort | uniq -c | awk '{ printf "%s%d %s", (NR > 1 ? ", " : ""), $1, $2 }'
+  fi
+}
+
 # IS_LATE: sets answers and outcome for the last run
 describe() {
-  answers=$({ grep -xE 'sat|unsat|unknown' "$work/out" || true; } | head -c 1000 | tr '\n' ' ')
+  answers=$({ grep -xE 'sat|unsat|unknown' "$work/out" || true; } | head -c 100000 | tr '\n' ' ')
   answers=${answers% }
   if $1; then
     outcome="no end after $seconds s"
   elif (( status == 0 )); then
-    outcome=${answers:-done}
+    outcome=$(in_short "$answers")
   elif (( status > 128 )); then
     outcome="signal $(( status - 128 ))"
   else
