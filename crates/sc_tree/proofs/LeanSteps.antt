@@ -10,11 +10,15 @@ use Rattle.sc_facts.specs.declared.fact.Fact.{Fact}
 use Rattle.sc_facts.specs.declared.fact.Fact.TheVariants as facts
 use Rattle.sc_facts.specs.Same.{same_fact, same_fact-Decides}
 use Rattle.sc_facts.specs.Facts.{has, row_in, root_facts}
+use Rattle.sc_base.specs.Numbered.{item_at}
 use Rattle.sc_deriv.specs.declared.derivation.Step.{Step}
+use Rattle.sc_deriv.specs.declared.derivation.Step.TheVariants.{Plain}
 use Rattle.sc_deriv.specs.declared.derivation.Taken.{Taken}
 use Rattle.sc_deriv.specs.Taking.{concluded, path_from}
 use Rattle.sc_tree.specs.Lean.{Key, Brings, Says, key, fact_key, brings_more, IsLeanOn, LeanFrom}
-use Rattle.sc_tree.specs.Laws.{NewFactsAreLean}
+use Rattle.sc_tree.specs.Chains.{taken}
+use Rattle.sc_tree.specs.Laws.{StepsAreLean}
+use Rattle.sc_tree.proofs.OneBranch.{IsOneFact, one_fact}
 
 -- a key that is a fact's stands on the path
 abbrev IsOn : List Fact → Key → Type 0
@@ -92,6 +96,16 @@ module _ (problem : Parts) (t : Taken) (fact : Fact) (plain : row_in fact ≡ No
   lean-on path keys (u ∷ us) last on lean leads brings new =
       on-by path keys u us last (concluded problem path u) on lean leads (λ p ks o l k. lean-on p ks us last o l k brings new)
 
-pub new_facts_are_lean : NewFactsAreLean
-new_facts_are_lean problem steps path t fact lean leads brings plain new =
-    lean-on problem t fact plain (root_facts problem.roots) [] steps path tt lean leads brings new
+lacks-one : (path : List Fact) (f : Fact) → brings_more path (f ∷ []) ≡ true → has path f ≡ false
+lacks-one path f e = by (has path f) e
+  where
+    by : (a : Bool) → not (a && true) ≡ true → a ≡ false
+    by true h = absurd (false≢true h)
+    by false h = refl
+
+pub steps_are_lean : StepsAreLean
+steps_are_lean problem steps path (Plain step) bs lean leads is more =
+    let found : IsOneFact bs = one_fact problem path step bs is in
+    let brings : concluded problem path (taken (Plain step) 1) ≡ Some (found.0 ∷ []) = ap (λ o. o >>= (λ lists. item_at lists 1)) is ∙ ap Some found.1 in
+    let new : has path found.0 ≡ false = lacks-one path found.0 (subst (λ fs. brings_more path fs ≡ true) found.1 more) in
+    lean-on problem (taken (Plain step) 1) found.0 found.2 (root_facts problem.roots) [] steps path tt lean leads brings new

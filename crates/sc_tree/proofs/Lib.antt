@@ -15,4 +15,6 @@ pub mod ClosedTrees
 pub mod Spelt
 pub mod Deciding
 pub mod HoldingOn
+pub mod OneBranch
 pub mod LeanSteps
+pub mod Splits

@@ -5,33 +5,41 @@ use Rattle.sc_base.specs.Numbered.{item_at}
 use Rattle.sc_terms.specs.declared.problem.Parts.{Parts}
 use Rattle.sc_terms.specs.Values.{ValueMap, Shows}
 use Rattle.sc_facts.specs.declared.fact.Fact.{Fact}
-use Rattle.sc_facts.specs.Facts.{has, row_in, root_facts}
+use Rattle.sc_facts.specs.Facts.{root_facts}
 use Rattle.sc_deriv.specs.declared.derivation.Taken.{Taken}
 use Rattle.sc_tree.specs.declared.machine.Mark.TheVariants as marks
 use Rattle.sc_tree.specs.declared.machine.Event.{Event}
 use Rattle.sc_tree.specs.declared.machine.Event.TheVariants as events
 use Rattle.sc_tree.specs.declared.machine.Entry.{Entry}
-use Rattle.sc_deriv.specs.Taking.{concluded, path_after}
-use Rattle.sc_tree.specs.Lean.{Lean}
+use Rattle.sc_deriv.specs.Taking.{path_after}
+use Rattle.sc_tree.specs.Lean.{brings_more, Lean}
 use Rattle.sc_facts.specs.Paths.{PathFacts}
 use Rattle.sc_deriv.specs.declared.derivation.Step.{Step}
 use Rattle.sc_tree.specs.declared.machine.Reply.TheVariants as replies
-use Rattle.sc_tree.specs.Chains.{firsts, grow}
+use Rattle.sc_tree.specs.Chains.{taken, firsts, grow}
 use Rattle.sc_tree.specs.Events.{AllowsOn}
 use Rattle.sc_tree.specs.Answering.{Answers}
 use Rattle.sc_tree.specs.Machine.{Kept, state, HoldsNone, Cell, kept, state_of, HasLeaf, IsLegal, MayAsk}
 use Rattle.sc_tree.specs.Trying.{AreTried}
 use Rattle.sc_tree.specs.Reading.{is_ended, tree_nodes}
 use Rattle.sc_deriv.specs.declared.derivation.Node.{Node}
-use Rattle.sc_deriv.specs.Acceptance.{Closed}
+use Rattle.sc_deriv.specs.Acceptance.{step_branches, Closed}
 use Rattle.sc_deriv.specs.Spelling.{IsTree, are_nodes}
 
--- after lean steps a step that brings one new fact, which is no row, is lean
-abbrev pub NewFactsAreLean : Type 0
-NewFactsAreLean =
-    (problem : Parts) (steps : List Taken) (path : List Fact) (t : Taken) (fact : Fact) →
+-- after lean steps a step of one branch that brings something new is lean
+abbrev pub StepsAreLean : Type 0
+StepsAreLean =
+    (problem : Parts) (steps : List Taken) (path : List Fact) (step : Step) (bs : List Fact) →
     Lean problem steps → path_after problem steps ≡ Some path →
-    concluded problem path t ≡ Some (fact ∷ []) → row_in fact ≡ None → has path fact ≡ false → Lean problem (steps ++ t ∷ [])
+    step_branches problem path step ≡ Some (bs ∷ []) → brings_more path bs ≡ true → Lean problem (steps ++ taken step 1 ∷ [])
+
+-- after lean steps a step of two branches that brings something new in each is lean with either
+abbrev pub SplitsAreLean : Type 0
+SplitsAreLean =
+    (problem : Parts) (steps : List Taken) (path : List Fact) (step : Step) (first second : List Fact) →
+    Lean problem steps → path_after problem steps ≡ Some path →
+    step_branches problem path step ≡ Some (first ∷ second ∷ []) → brings_more path first ≡ true → brings_more path second ≡ true →
+    Lean problem (steps ++ taken step 1 ∷ []) × Lean problem (steps ++ taken step 2 ∷ [])
 
 -- no entry is of the seat
 abbrev pub Lacks : ℕ → List Entry → Type 0

@@ -19,8 +19,22 @@ pub data Key : Type 0 where
 
 -- the step with its pair in order, where what it says does not depend on the pair's order
 abbrev pub with_ordered_pair : Step → Step
+with_ordered_pair (steps.Plain (plain.Atom n)) = steps.Plain (plain.Atom n)
+with_ordered_pair (steps.Plain (plain.All n p)) = steps.Plain (plain.All n p)
+with_ordered_pair (steps.Plain (plain.Unit n p)) = steps.Plain (plain.Unit n p)
+with_ordered_pair (steps.Plain (plain.Cut name)) = steps.Plain (plain.Cut name)
+with_ordered_pair (steps.Plain (plain.Op e s p)) = steps.Plain (plain.Op e s p)
+with_ordered_pair (steps.Plain (plain.Single e s)) = steps.Plain (plain.Single e s)
+with_ordered_pair (steps.Plain (plain.Unsingle e s)) = steps.Plain (plain.Unsingle e s)
+with_ordered_pair (steps.Plain (plain.Carry e f s)) = steps.Plain (plain.Carry e f s)
+with_ordered_pair (steps.Plain (plain.Apart e f s)) = steps.Plain (plain.Apart e f s)
+with_ordered_pair (steps.Plain (plain.Move e s t)) = steps.Plain (plain.Move e s t)
+with_ordered_pair (steps.Plain (plain.SetApart e s t)) = steps.Plain (plain.SetApart e s t)
+with_ordered_pair (steps.Plain (plain.EqRefl e)) = steps.Plain (plain.EqRefl e)
+with_ordered_pair (steps.Plain (plain.EqStep e f g)) = steps.Plain (plain.EqStep e f g)
+with_ordered_pair (steps.Plain (plain.SeqRefl s)) = steps.Plain (plain.SeqRefl s)
+with_ordered_pair (steps.Plain (plain.SeqStep s t u)) = steps.Plain (plain.SeqStep s t u)
 with_ordered_pair (steps.Plain (plain.Differ s t)) = steps.Plain (plain.Differ (ordered s t).0 (ordered s t).1)
-with_ordered_pair step = step
 
 -- a row is told by its step
 abbrev pub fact_key : Step → Fact → Key

@@ -1,6 +1,6 @@
 //! What holds of every path and of every history. Each function stands for the laws that its contract states, and does nothing.
 
-ghost use Rattle.sc_tree.specs.Laws.{AllowedMayBeAsked, DoneHoldNone, OverHoldNone, GrowsHold, RootsHoldNone, SeatsHoldOne, TakesHold, ClosedAreNamed, ClosedAreTrees, ClosedLeavesClose, LeavesAreTried, LeavesStay, ModelsShow, NewFactsAreLean, TicketsStay};
+ghost use Rattle.sc_tree.specs.Laws.{AllowedMayBeAsked, DoneHoldNone, OverHoldNone, GrowsHold, RootsHoldNone, SeatsHoldOne, TakesHold, ClosedAreNamed, ClosedAreTrees, ClosedLeavesClose, LeavesAreTried, LeavesStay, ModelsShow, StepsAreLean, SplitsAreLean, TicketsStay};
 
 /// Whatever others do, a leaf that a seat holds keeps its mark, its path and its steps, and what a seat may ask, it may ask whatever others did since.
 #[tactic(auto, using(crate::proofs::Tickets::leaves_stay, crate::proofs::Tickets::tickets_stay))]
@@ -50,7 +50,12 @@ pub fn leaves_are_given_up()
     ensures over { OverHoldNone }
 {}
 
-/// After lean steps a step that brings one new fact, which is no row, is lean.
-pub fn new_facts_are_lean()
-    ensures { NewFactsAreLean }
+/// After lean steps a step of one branch that brings something new is lean.
+pub fn steps_are_lean()
+    ensures { StepsAreLean }
+{}
+
+/// After lean steps a step of two branches that brings something new in each is lean with either branch.
+pub fn splits_are_lean()
+    ensures { SplitsAreLean }
 {}

@@ -23,7 +23,7 @@ pub use budget::Budget;
 pub use decider::Decider;
 pub use laws::{
     closed_trees_are_spelt, leaves_are_given_up, leaves_are_held, leaves_are_tried, models_show,
-    new_facts_are_lean, seats_hold_one, tickets_stay,
+    seats_hold_one, splits_are_lean, steps_are_lean, tickets_stay,
 };
 pub use machine::{Cause, Chain, Entry, Event, Mark, Place, Reply, SeenCause};
 pub use sc_deriv::{Closing, Derivation, Step, Steps, Taken};
