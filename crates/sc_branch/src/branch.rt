@@ -137,7 +137,7 @@ impl Branch {
         let needed = needed_split(&self.growing, self.seen(problem), self.alloc)?;
         let full = self.growing.len() as u64 >= budget;
         let mut stuck = None;
-        if needed.is_none() {
+        if needed.is_none() || self.trials.begin_plainly() {
             let tried = self.values(problem, bank)?;
             stuck = tried.stuck;
             if let Some(values) = tried.values {

@@ -10,6 +10,8 @@ pub(crate) struct Trials {
     is_split: bool,
     /// Whether values with guessed signs were tried at the leaf.
     is_tried: bool,
+    /// Whether values without guessed signs were tried at the root's leaf though formulas were open.
+    is_root_tried: bool,
     /// How many leaves that a split made were begun.
     leaves: u32,
     /// How many must have been begun before values are tried again.
@@ -33,6 +35,7 @@ impl Trials {
         let start = Trials {
             is_split: false,
             is_tried: false,
+            is_root_tried: false,
             leaves: 0,
             next: 1,
         };
@@ -45,6 +48,7 @@ impl Trials {
         Trials {
             is_split,
             is_tried: false,
+            is_root_tried: self.is_root_tried,
             leaves: self.leaves.saturating_add(is_split as u32),
             next: self.next,
         }
@@ -55,7 +59,14 @@ impl Trials {
         is_full || self.is_split
     }
 
-    /// Whether values are to be tried now; then they are not tried at this leaf again.
+    /// Whether values are to be tried without guesses of signs: once at the root's leaf, where many a script is satisfied by them.
+    pub(crate) fn begin_plainly(&mut self) -> bool {
+        let due = !self.is_split && !self.is_root_tried;
+        self.is_root_tried = true;
+        due
+    }
+
+    /// Whether values with guessed signs are to be tried now; then they are not tried at this leaf again.
     pub(crate) fn begin(&mut self, is_full: bool) -> bool {
         if self.is_tried {
             return false;
