@@ -1,5 +1,5 @@
 -- An accepted derivation refutes the script's own assertions.
-use Rattle.std.proofs.Common.{◌≡◌, ℕ, zero, suc, Bool, true, List, [], ◌∷◌, ◌++◌, map, Option, Some, None, slice_get, refl, sym, ap, ◌∙◌, append_assoc, append-nil, subst}
+use Rattle.std.proofs.Common.{◌≡◌, ℕ, zero, suc, Bool, true, List, [], ◌∷◌, ◌++◌, map, Some, slice_get, refl, sym, ap, ◌∙◌, append_assoc, append-nil, subst}
 use Rattle.std.specs.List.{AllByRecursion}
 use Rattle.sc_sexpr.specs.Shapes.{Shape}
 use Rattle.sc_terms.specs.declared.nodes.Node.{Node}
@@ -19,7 +19,7 @@ use Rattle.sc_check.specs.declared.finding.Finding.TheVariants as found
 use Rattle.sc_check.specs.Lines.{judged, finding}
 use Rattle.sc_check.specs.Reports.{standing, behind_trace, follow}
 use Rattle.sc_check.specs.Laws.{AcceptedRefute}
-use Rattle.sc_check.specs.Claims.{claimed_by, claims_from, AreContradictory, IsRefuted, AcceptedRefuteScripts}
+use Rattle.sc_check.specs.Claims.{claimed_by, claims_from, AreContradictory, AcceptedRefuteScripts}
 use Rattle.sc_check.proofs.Asking.{session_is}
 use Rattle.sc_check.proofs.Growing.{Elaborates, IsSound, begins_then, grow, none_follows, reach}
 

@@ -25,7 +25,7 @@ use Rattle.sc_session.specs.Laws.{SayTheSame}
 use Rattle.sc_session.specs.Proving.{ProofsRefute}
 use Rattle.sc_session.specs.Tracing.{step}
 use Rattle.sc_check.specs.Lines.{is_derivation}
-use Rattle.sc_check.specs.Printed.{proofs_of, IsCopyOf, derivations_in, all_accepted, EachIsAnswered, ChecksAcceptPrinted}
+use Rattle.sc_check.specs.Printed.{proofs_of, IsCopyOf, derivations_in, EachIsAnswered, ChecksAcceptPrinted}
 use Rattle.sc_check.specs.Transcripts.{IsToldItem, AreItemsOf, TranscriptsAreCopies, ChecksAcceptTranscripts}
 use Rattle.sc_check.proofs.Covering.{covered}
 use Rattle.sc_check.proofs.Printing.{followed_to}
@@ -164,8 +164,7 @@ transcripts_are_copies errors refute say have items names text script reads budg
 
 pub checks_accept_transcripts : ChecksAcceptPrinted → EachIsAnswered → AreItems → HaveAllTokens → TranscriptsAreCopies → ChecksAcceptTranscripts
 checks_accept_transcripts accept answered give all are_copies text script reads budget verdicts just input v y whole t j later parts same end =
-    let items = covered give all v j.before j.behind y input (course_of script verdicts).bytes j.follows.items j.items j.leaves.i whole j.follows.gives j.leaves.next j.gives end same in
-    (
+    let items = covered give all v j.before j.behind y input (course_of script verdicts).bytes j.follows.items j.items j.leaves.i whole j.follows.gives j.leaves.next j.gives end same in (
       accept false budget script verdicts just v y t j later parts (are_copies text script reads budget verdicts just j.items items),
       λ fine. answered budget script verdicts just fine j.script.asked (step j.script.session j.leaves.i).session.bank (followed_to v y t j script.items later parts),
     )

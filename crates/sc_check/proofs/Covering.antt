@@ -1,5 +1,5 @@
 -- The items behind the script are those of the bytes there.
-use Rattle.std.proofs.Common.{◌≡◌, ℕ, Bool, true, false, List, [], ◌∷◌, ◌++◌, Option, Some, None, refl, sym, ap, ◌∙◌, append_assoc, append-nil, subst}
+use Rattle.std.proofs.Common.{◌≡◌, ℕ, true, List, [], ◌∷◌, ◌++◌, None, refl, sym, ap, ◌∙◌, append_assoc, append-nil, subst}
 use Rattle.std.specs.List.{AllByRecursion, flat_map}
 use Rattle.sc_text.specs.Readings.{Lexeme, Reads, Whole}
 use Rattle.sc_text.proofs.Readings.{one}
@@ -12,7 +12,7 @@ use Rattle.sc_sexpr.specs.Laws.{GivesItem, AreItems}
 use Rattle.sc_sexpr.specs.Given.{GivesAll, HaveTokens, HaveAllTokens, AreItemsOf as AreGivenOf}
 use Rattle.sc_deriv_text.specs.Sexpr.{plain, tokens_of}
 use Rattle.sc_deriv_text.proofs.ReadBack.{told_reads}
-use Rattle.sc_session.specs.Scripts.{Item, IsTold, AreTold, most_bytes}
+use Rattle.sc_session.specs.Scripts.{Item, AreTold, most_bytes}
 use Rattle.sc_check.specs.Reports.{most_more, IsWhole, Next, Gives, none, more}
 use Rattle.sc_check.specs.Transcripts.{IsToldItem, AreItemsOf, HaveSameTokens}
 use Rattle.sc_check.proofs.Unended.{not_over}

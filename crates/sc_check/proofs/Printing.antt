@@ -1,7 +1,7 @@
 -- What a script prints where it is solved is accepted where it is followed.
 use Rattle.std.proofs.Common.{◌≡◌, if◌then◌else◌, ℕ, zero, suc, ◌+◌, Bool, true, false, List, [], ◌∷◌, ◌++◌, length, cond, Option, Some, None, slice_get, Result, Ok, refl, sym, ap, ◌∙◌, append_assoc, append-nil, subst, inl, inr, arith}
 use Rattle.std.specs.Prelude.{◌⊎◌}
-use Rattle.std.specs.List.{AllByRecursion, AllZip, IsDistinct}
+use Rattle.std.specs.List.{AllZip, IsDistinct}
 use Rattle.sc_text.specs.declared.code.Code.{Code}
 use Rattle.sc_text.specs.Fronts.{front, gap}
 use Rattle.sc_text.specs.Readings.{Lexeme, End, first, rest_of, Reads, Begins as BeginsWith, Whole}

@@ -21,7 +21,8 @@ pub use checker::check_input;
 pub use ending::Ending;
 pub use finding::Finding;
 pub use laws::{
-    accepted_derivations_refute, accepted_derivations_refute_scripts, printed_derivations_are_accepted, transcripts_are_accepted,
+    accepted_derivations_refute, accepted_derivations_refute_scripts,
+    printed_derivations_are_accepted, transcripts_are_accepted,
 };
 
 #[cfg(test)]
