@@ -1,5 +1,5 @@
 -- What a splitter has that was filled with the input.
-use Rattle.std.proofs.Common.{◌≡◌, ℕ, ◌+◌, ◌<◌, true, List, [], ◌++◌, arith, inl, inr, refl, sym, ap, ◌∙◌, append-nil, subst}
+use Rattle.std.proofs.Common.{◌≡◌, ℕ, ◌+◌, true, List, [], ◌++◌, arith, inl, inr, ap, ◌∙◌, append-nil}
 use Rattle.sc_io.specs.Moments.{SourceMoment}
 use Rattle.sc_sexpr.specs.Scans.{start, reads}
 use Rattle.sc_sexpr.specs.View.{View, fresh_view}
