@@ -4,3 +4,4 @@ mod Splitting
 mod Trying
 mod Labelling
 mod Allowed
+mod Sole

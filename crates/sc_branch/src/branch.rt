@@ -96,9 +96,9 @@ impl Branch {
         }
     }
 
-    /// What may be done at a leaf with this path, so that the search goes on: the leaf is closed where a clash stands on the path. Else the path goes on by steps that each conclude a new fact. Else, where the values that are read off the path, with guesses of the memberships that it leaves open, make every assertion true, they are found. Else the leaf is split: by a cut on a formula or a membership, or on which of two different sets has their differing element. A path on which nothing is due has a model.
+    /// What may be done at a leaf with this path, so that the search goes on: the leaf is closed where a clash stands on the path. Else the path goes on by steps that each conclude a new fact. Else values that are read off the path, with guesses beside it, may be tried on the assertions, and are found where they make every one true; else the leaf is split, by a cut on a formula or a membership, or on which of two different sets has their differing element, or the path takes a step that is due. Where nothing is due, the values that are read off the path are found.
     ///
-    /// `bank` has the nodes of which the problem is made: the assertions are tried there. `problem` is the one with which the branch was made, and `budget` the greatest number of steps on a path; the leaf is given up only where the path has so many, no clash stands, and the values that are read off it with all that follows, and with guesses of what is open, do not do. The only error is want of memory, after which the branch is of no further use.
+    /// `problem` is the one with which the branch was made, and one that may be decided (`IsPosed`); `bank` has the nodes of which it is made: the assertions are tried there. `budget` is the greatest number of steps on a path, and the steps must lead to the path from the root path, leanly and within it; the leaf is given up only where the path has so many steps and no clash stands. The only error is want of memory, after which the branch is of no further use.
     pub fn advance(&mut self, problem: &Problem, bank: &Bank, budget: u64) -> Result<Event, Memory>
         requires about { self.old.problem ≡ problem.now }
         requires posed { IsPosed problem.now bank.now }

@@ -8,12 +8,13 @@ ghost use Rattle.sc_rules.specs.Steps.{branches};
 ghost use Rattle.sc_tree.specs.Lean as spec;
 ghost use Rattle.sc_branch.specs.Clashes.{IsClash};
 ghost use Rattle.sc_model.specs.Deciding.{Concludes, Divides, sole};
+ghost use Rattle.sc_model.specs.Deciding as deciding;
 ghost use Rattle.sc_branch.specs.Growing.{GoesOn, Adds};
 
 use crate::clash::{clash_of, first_clash, name_of};
 use sc_deriv::{Step, Steps, Taken};
 use sc_facts::{Fact, FactName, Facts, Path};
-use sc_rules::{Branches, PlainStep, StepError, apply};
+use sc_rules::{Branches, PlainStep, StepError, apply, conclusion};
 use sc_terms::{Memory, Problem};
 use sc_tree::Chain;
 use std::alloc::Global;
@@ -41,32 +42,22 @@ impl Model for Growing {
     ghost invariant = { λ g. IsClash g.path.facts g.clash };
 }
 
-/// The one fact of one branch, where it is no row.
-fn sole_fact(facts: &Facts) -> Result<Option<Fact>, Memory>
-    ensures { IfOk result (λ fact. fact ≡ sole (Some (facts.now ∷ []))) }
+/// The fact, where it is no row.
+fn no_row(fact: Fact) -> Option<Fact>
+    ensures { result ≡ deciding.no_row fact }
 {
-    match facts.as_slice() {
-        [Fact::Row(_)] => Ok(None),
-        [fact] => Ok(Some(fact.clone()?)),
-        _ => Ok(None),
+    match fact {
+        Fact::Row(_) => None,
+        fact => Some(fact),
     }
 }
 
-/// The fact that a step concludes, where it concludes one alone, which is no row, in one branch.
-fn conclusion(
-    alloc: Global,
-    problem: &Problem,
-    path: &Path,
-    step: &PlainStep,
-) -> Result<Option<Fact>, Memory>
-    ensures { IfOk result (λ fact. fact ≡ sole (branches problem.now path.now.facts step.now)) }
+/// The fact that a step concludes, where it concludes one alone, which is no row, in one branch. It takes no memory.
+#[tactic(auto, using(crate::proofs::Sole::sole_alone))]
+fn fact_of(problem: &Problem, path: &Path, step: &PlainStep) -> Option<Fact>
+    ensures { result ≡ sole (branches problem.now path.now.facts step.now) }
 {
-    match apply(alloc, problem, path, step) {
-        Ok(Branches::One(facts)) => sole_fact(&facts),
-        Ok(Branches::Two(_, _)) => Ok(None),
-        Err(StepError::NotApplicable) => Ok(None),
-        Err(StepError::Memory) => Err(Memory),
-    }
+    no_row(conclusion(problem, path, step)?)
 }
 
 /// Whether all of the facts are on the path.
@@ -173,7 +164,7 @@ impl Growing {
         if self.steps.len() as u64 >= budget {
             return Ok(());
         }
-        let Some(fact) = conclusion(alloc, problem, &self.path, &step)? else {
+        let Some(fact) = fact_of(problem, &self.path, &step) else {
             return Ok(());
         };
         if self.path.has(&fact) {

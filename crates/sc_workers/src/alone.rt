@@ -1,6 +1,6 @@
 //! Deciding with one worker.
 
-ghost use Rattle.std.specs.Prelude.{◌≡◌, ◌≤◌, ◌^◌, ◌&&◌, true, IfOk, OnOk, IfSome};
+ghost use Rattle.std.specs.Prelude.{◌≡◌, ◌≤◌, ◌^◌, ◌&&◌, true, IfOk, OnOk};
 ghost use Rattle.sc_sorts.specs.Posed.{IsPosed};
 ghost use Rattle.sc_tree.specs.Machine.{state, has_answer};
 ghost use Rattle.sc_tree.specs.Verdicts.{IsJust};
@@ -8,8 +8,6 @@ ghost use Rattle.sc_workers.specs.Seats as spec;
 ghost use Rattle.sc_workers.specs.Seats.{IsOf, IsIdle, IsBusy, IsAsked};
 
 use sc_branch::Branch;
-use sc_deriv::Steps;
-use sc_facts::Path;
 use sc_terms::{Bank, Memory, Problem};
 use sc_tree::{Decider, Event, Reply, Tree, Verdict, leaves_are_tried};
 use std::alloc::Global;
@@ -78,25 +76,35 @@ fn work(
     unreachable!()
 }
 
-/// The branch at a leaf: a kept one that goes over to it, or else a new one.
-fn branch_at(
-    alloc: Global,
+/// Goes over to one leaf after another and goes on with each, until the tree has its answer.
+fn go_on(
     problem: &Problem,
-    kept: Option<Branch>,
-    path: Path,
-    steps: Steps,
-) -> Result<Branch, Memory>
-    requires { IfSome kept (λ branch. branch.problem ≡ problem.now) }
-    ensures { IfOk result (λ branch. branch ≡ record { problem = problem.now; path = path; steps = steps }) }
+    bank: &Bank,
+    budget: u64,
+    tree: &mut Tree,
+    branch: &mut Branch,
+) -> Result<(), Memory>
+    requires posed { IsPosed problem.now bank.now }
+    requires limit { budget ≤ 2 ^ 40 }
+    requires about { IsOf problem.now budget tree.old }
+    requires idle { IsIdle tree.old }
+    requires same { branch.old.problem ≡ problem.now }
+    ensures about { OnOk result (IsOf problem.now budget tree.new) }
+    ensures answer { OnOk result (has_answer (state tree.new) ≡ true) }
 {
-    match kept {
-        Some(branch) => {
-            let mut branch = branch;
-            branch.change(problem, path, steps)?;
-            Ok(branch)
+    leaves_are_tried();
+    for turn in 0..u64::MAX {
+        match tree.step(problem, SEAT, Event::Take)? {
+            Reply::Leaf { path, steps, .. } => {
+                branch.change(problem, path, steps)?;
+                work(problem, bank, budget, tree, branch)?;
+            }
+            Reply::Over => return Ok(()),
+            Reply::Done => unreachable!(),
+            Reply::Idle => unreachable!(),
         }
-        None => Branch::from_path(alloc, problem, path, steps),
     }
+    Err(Memory)
 }
 
 /// Takes leaves and goes on with them until the tree has its answer.
@@ -115,23 +123,19 @@ fn search(
     ensures answer { OnOk result (has_answer (state tree.new) ≡ true) }
 {
     leaves_are_tried();
-    let mut kept = None;
-    for turn in 0..u64::MAX {
-        match tree.step(problem, SEAT, Event::Take)? {
-            Reply::Leaf { path, steps, .. } => {
-                let mut branch = branch_at(alloc, problem, kept, path, steps)?;
-                work(problem, bank, budget, tree, &mut branch)?;
-                kept = Some(branch);
-            }
-            Reply::Over => return Ok(()),
-            Reply::Done => unreachable!(),
-            Reply::Idle => unreachable!(),
+    match tree.step(problem, SEAT, Event::Take)? {
+        Reply::Leaf { path, steps, .. } => {
+            let mut branch = Branch::from_path(alloc, problem, path, steps)?;
+            work(problem, bank, budget, tree, &mut branch)?;
+            go_on(problem, bank, budget, tree, &mut branch)
         }
+        Reply::Over => Ok(()),
+        Reply::Done => unreachable!(),
+        Reply::Idle => unreachable!(),
     }
-    Err(Memory)
 }
 
-/// A just verdict on a well-sorted problem of sets without inequalities, Int terms and cards, which is that of assertions of the bank, with at most `budget` steps on each branch, 1 to 2^40: values that make the problem true, a derivation that refutes it, or the tree of which some branch has spent its budget on different steps. The only error is want of memory.
+/// A just verdict on a well-sorted problem of sets without inequalities, Int terms and cards, which is that of assertions of the bank, with at most `budget` steps on each branch, 1 to 2^40: values that make the problem true, a derivation that refutes it, or a tree each of whose branches that isn't closed has spent its budget on different steps or shows a number past 128 bits. The only error is want of memory.
 ///
 /// The search is that of Davis, Logemann and Loveland, "A Machine Program for Theorem-Proving" (1962), on formulas rather than clauses: signs spread to parts and from parts to formulas, and cuts on a formula's sign where they spread no further.
 pub fn decide_alone(
