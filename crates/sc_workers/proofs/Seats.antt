@@ -57,6 +57,7 @@ held_at : PathFacts → List Taken → Parts → Held
 held_at path steps problem = record { problem = problem; path = path; steps = steps }
 
 pub takes_at : LeavesAreTried → (old new : Kept) (n : ℕ) (path : PathFacts) (steps : List Taken) (problem : Parts) (held : Held) → new.problem ≡ problem → held ≡ record { problem = problem; path = path; steps = steps } → IsIdle old → IsOpenLeaf old n path steps → Adds old (entry 1 n events.Take false) new → IsLegal new.problem new.budget new.journal → IsBusy new held
+unfolding held_at
 takes_at tried old new n path steps problem held same is idle opened adds legal =
     subst (IsBusy new) (ap (held_at path steps) same ∙ sym is) (takes tried old new n path steps idle opened adds legal)
 
