@@ -11,7 +11,7 @@ pub work-requires-clause-busy : goal.work-requires-clause-busy
 work-requires-clause-busy c =
     let s = subst (λ r. Answers c.loop-turn.tree 1 Take r c.step.new.self) c.in-Leaf.is c.in_ok-path.ensures.ok in
     let of = stays c.args.problem.now c.args.budget 1 c.loop-turn.tree c.step.new.self Take c.in_ok-path.field-0 c.in_ok-path.ensures.ok c.loop-turn.invariant.about in
-    takes_at c.leaves_are_tried.ensures c.loop-turn.tree c.step.new.self c.in-Leaf.leaf c.in-Leaf.path c.in-Leaf.steps c.loop-turn.branch.problem c.change.new.self (of.about ∙ sym c.loop-turn.invariant.same) c.in_ok-change.ensures.ok c.loop-turn.invariant.idle s.1 s.2 c.step.ensures.legal
+    takes_at c.leaves_are_tried.ensures c.loop-turn.tree c.step.new.self c.in-Leaf.leaf c.in-Leaf.path c.in-Leaf.steps c.loop-turn.branch.problem c.change.new.self (of.about ∙ sym c.loop-turn.invariant.same) c.in_ok-change-in-Leaf.ensures.ok c.loop-turn.invariant.idle s.1 s.2 c.step.ensures.legal
 
 pub returns-in-Over-clause-answer : goal.returns-in-Over-clause-answer
 returns-in-Over-clause-answer c =

@@ -1,4 +1,4 @@
-use Rattle.std.proofs.Common.{inl, inr, sym, subst, ◌∙◌}
+use Rattle.std.proofs.Common.{inl, inr, subst}
 use Rattle.sc_tree.specs.declared.machine.Event.TheVariants.{Take}
 use Rattle.sc_tree.specs.Answering.{Answers}
 use Rattle.sc_workers.proofs.Seats.{takes_at, may_take, over_idle, may_be, stays}
