@@ -7,6 +7,8 @@
 
 mod laws;
 mod pool;
+#[cfg(test)]
+mod tests;
 
 pub use laws::least_applies;
 pub use pool::Pool;
